@@ -1,0 +1,45 @@
+-- The outcome of a job: a refusal by its number, or done with what it gives back. Assumes nothing.
+use mathlib.Core.Path.{_≡_, refl}
+use mathlib.Core.Bool.{Bool, true, false}
+use mathlib.Core.List.{List}
+use Prim.Native.Nat.{ℕ}
+use Rattle.answer.specs.declared.Refusal.{Refusal}
+use Rattle.answer.specs.declared.Refusal.the-variants.{Depth, Rate, Length, Word, BaseRow, Diagonals, Queries, NoCodeword, Clearance}
+use Rattle.answer.specs.declared.Answer.{Answer}
+use Rattle.answer.specs.declared.Answer.the-variants.{Done, Refused}
+
+pub data Outcome (A : Type 0) : Type 0 where
+  refused : ℕ → Outcome A
+  done : A → Outcome A
+
+-- the number of each refusal
+abbrev pub number : Refusal → ℕ
+number Depth = 1
+number Rate = 2
+number Length = 3
+number Word = 4
+number BaseRow = 5
+number Diagonals = 6
+number Queries = 7
+number NoCodeword = 8
+number Clearance = 9
+
+-- what an answer says
+abbrev pub outcome : Answer → Outcome (Unit {0})
+outcome Done = done tt
+outcome (Refused r) = refused (number r)
+
+-- unless the test holds, number n is due; where it holds, what comes after decides
+abbrev pub must : {A : Type 0} → Bool → ℕ → Outcome A → Outcome A
+must true n next = next
+must false n next = refused n
+
+-- a buffer afterwards: as it was where a refusal was due, else new
+abbrev pub kept : {A B : Type 0} → Outcome A → List B → List B → List B
+kept (refused n) old new = old
+kept (done a) old new = new
+
+-- what holds where the job is done
+abbrev pub Given : {A : Type 0} → Outcome A → (A → Type 0) → Type 0
+Given (refused n) P = Unit {0}
+Given (done a) P = P a
