@@ -45,6 +45,10 @@ module _ (F : Field) where
   unfoldable pub line : R → R → R → R → R → R
   line a t t' u v = u + (a - t) * slope t t' u v
 
+  -- the fold by a of a block of 2 n words, along the diagonals t and t': at j the line through (t[j], w[j]) and (t'[j], w[j + n]), at a
+  abbrev pub foldAlong : ℕ → R → List R → List R → List R → List R
+  foldAlong n a t t' w = zip₄ (line a) t t' (take n w) (drop n w)
+
   module _ (C : Code F) where
     open Code C using (n₀, G₀, T, T')
 
@@ -63,9 +67,9 @@ module _ (F : Field) where
       pub sized : length message ≡ dim F C i
       pub encodes : encode i message ≡ w
 
-    -- a block of level i + 1 to level i, by a: at j the line through (T_i[j], w[j]) and (T'_i[j], w[j + n_i]), at a
+    -- a block of level i + 1 folded to level i
     unfoldable pub fold : ℕ → R → List R → List R
-    fold i a w = zip₄ (line a) (T i) (T' i) (take (size F C i) w) (drop (size F C i) w)
+    fold i a w = foldAlong (size F C i) a (T i) (T' i) w
 
     -- what is asked below level d: the lengths are exact, and T and T' differ in every place
     pub record Legal (d : ℕ) : Type 0 where

@@ -1,12 +1,13 @@
 -- The outcome of a job: a refusal by its number, or done with what it gives back. Assumes nothing.
-use mathlib.Core.Path.{_≡_, refl}
+use mathlib.Core.Path.{_≡_, refl, ap}
 use mathlib.Core.Bool.{Bool, true, false}
 use mathlib.Core.List.{List}
 use Prim.Native.Nat.{ℕ}
-use Rattle.answer.specs.declared.Refusal.{Refusal}
-use Rattle.answer.specs.declared.Refusal.the-variants.{Depth, Rate, Length, Word, BaseRow, Diagonals, Queries, NoCodeword, Clearance}
-use Rattle.answer.specs.declared.Answer.{Answer}
-use Rattle.answer.specs.declared.Answer.the-variants.{Done, Refused}
+use native.Mathlib.Omega.{arith}
+use Rattle.job.specs.declared.Refusal.{Refusal}
+use Rattle.job.specs.declared.Refusal.the-variants.{Depth, Rate, Length, Word, BaseRow, Diagonals, Queries, NoCodeword, Clearance}
+use Rattle.job.specs.declared.Answer.{Answer}
+use Rattle.job.specs.declared.Answer.the-variants.{Done, Refused}
 
 pub data Outcome (A : Type 0) : Type 0 where
   refused : ℕ → Outcome A
@@ -43,3 +44,14 @@ kept (done a) old new = new
 abbrev pub Given : {A : Type 0} → Outcome A → (A → Type 0) → Type 0
 Given (refused n) P = Unit {0}
 Given (done a) P = P a
+
+pub must-true : {A : Type 0} {b : Bool} (n : ℕ) (next : Outcome A) → b ≡ true → must b n next ≡ next
+must-true n next e = ap (λ t. must t n next) e
+
+pub must-false : {A : Type 0} {b : Bool} (n : ℕ) (next : Outcome A) → b ≡ false → must b n next ≡ refused n
+must-false n next e = ap (λ t. must t n next) e
+
+-- a job that is done passed each test
+pub must-done : {A : Type 0} (b : Bool) (n : ℕ) (next : Outcome A) {a : A} → must b n next ≡ done a → (b ≡ true) × (next ≡ done a)
+must-done true n next e = (refl, e)
+must-done false n next e = absurd (let z : _≡_ {A = ℕ} 0 1 = cc in omega arith)
