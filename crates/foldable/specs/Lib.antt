@@ -4,6 +4,7 @@
 --     Line, Level, Fold   line-cross; fold-encode, two-challenges
 --     Unique              unique, injective; unique-row
 --     Columns, Decode     decoding on some columns: decode-encode, decodes
+--     Lift                encoding in place: lift-spread
 pub mod Code
 pub mod Encode
 pub mod Line
@@ -12,3 +13,4 @@ pub mod Fold
 pub mod Unique
 pub mod Columns
 pub mod Decode
+pub mod Lift

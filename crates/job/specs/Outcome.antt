@@ -1,5 +1,5 @@
 -- The outcome of a job: a refusal by its number, or done with what it gives back. Assumes nothing.
-use mathlib.Core.Path.{_≡_, refl, ap}
+use mathlib.Core.Path.{_≡_, refl, sym, ap, _∙_}
 use mathlib.Core.Bool.{Bool, true, false}
 use mathlib.Core.List.{List}
 use Prim.Native.Nat.{ℕ}
@@ -35,6 +35,12 @@ abbrev pub must : {A : Type 0} → Bool → ℕ → Outcome A → Outcome A
 must true n next = next
 must false n next = refused n
 
+-- one outcome after another: the first refusal decides
+infixr 60 _⨾_
+abbrev pub _⨾_ : {A B : Type 0} → Outcome A → Outcome B → Outcome B
+refused n ⨾ next = refused n
+done a ⨾ next = next
+
 -- a buffer afterwards: as it was where a refusal was due, else new
 abbrev pub kept : {A B : Type 0} → Outcome A → List B → List B → List B
 kept (refused n) old new = old
@@ -55,3 +61,21 @@ must-false n next e = ap (λ t. must t n next) e
 pub must-done : {A : Type 0} (b : Bool) (n : ℕ) (next : Outcome A) {a : A} → must b n next ≡ done a → (b ≡ true) × (next ≡ done a)
 must-done true n next e = (refl, e)
 must-done false n next e = absurd (let z : _≡_ {A = ℕ} 0 1 = cc in omega arith)
+
+-- what the first outcome decides of two
+pub after-refused : {A B : Type 0} {o : Outcome A} (next : Outcome B) {n : ℕ} → refused n ≡ o → refused n ≡ o ⨾ next
+after-refused next e = ap (λ o. o ⨾ next) e
+
+pub after-done : {A B : Type 0} {o : Outcome A} {next x : Outcome B} {a : A} → done a ≡ o → x ≡ next → x ≡ o ⨾ next
+after-done {next = next} e f = f ∙ ap (λ o. o ⨾ next) e
+
+pub both-done : {A B : Type 0} (o : Outcome A) {next : Outcome B} {b : B} → o ⨾ next ≡ done b → (next ≡ done b) × ((n : ℕ) → o ≡ refused n → ⊥)
+both-done (refused n) e = absurd (let z : _≡_ {A = ℕ} 0 1 = cc in omega arith)
+both-done (done a) e = (e, λ n f. let z : _≡_ {A = ℕ} 0 1 = cc in omega arith)
+
+-- a buffer after a job that is done, and after one that is refused
+pub kept-done : {A B : Type 0} {o : Outcome A} {a : A} (old : List B) {new out : List B} → o ≡ done a → out ≡ new → out ≡ kept o old new
+kept-done old {new = new} e f = f ∙ sym (ap (λ o. kept o old new) e)
+
+pub kept-refused : {A B : Type 0} {o : Outcome A} {n : ℕ} (old new : List B) → o ≡ refused n → old ≡ kept o old new
+kept-refused old new e = sym (ap (λ o. kept o old new) e)

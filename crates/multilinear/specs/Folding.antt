@@ -1,5 +1,5 @@
 -- The message as the challenges are put in, from the top: what a writer of openings keeps, and h_i by its two halves. Assumes nothing.
-use mathlib.Core.Path.{_≡_, refl, sym, ap, ap₂, _∙_}
+use mathlib.Core.Path.{_≡_, sym, ap, ap₂, _∙_}
 use mathlib.Core.List.{List, [], _∷_, _++_}
 use Prim.Native.Nat.{ℕ, suc, _+_ as _+ℕ_, _^_, _<_}
 use native.Mathlib.Nat.{pow-suc}

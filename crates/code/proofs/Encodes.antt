@@ -1,0 +1,56 @@
+-- What is known once a message may be encoded. Assumes nothing.
+use mathlib.Core.Path.{_≡_, sym, ap, _∙_}
+use mathlib.Core.Bool.{_&&_}
+use mathlib.Core.List.{List}
+use Prim.Native.Nat.{ℕ, _*_, _^_}
+use native.Mathlib.Nat.{mul-comm}
+use lib.Dec.{eqb}
+use lib.ListN.{length}
+use borrow.Author.Tests.{eqb-true}
+use Rattle.algebra.specs.Tests.{and-both}
+use Rattle.algebra.specs.Words.{𝔽₁}
+use Rattle.algebra.specs.WordLists.{low-words, elements, toWords, elements-words, length-elements}
+use Rattle.foldable.specs.Code.{encode}
+use Rattle.foldable.specs.Lift.{lift, lift-spread}
+use Rattle.job.specs.Outcome.{done, must-done, both-done}
+use Rattle.job.specs.Limits.{blockSize}
+use Rattle.residue.specs.Residues.{F}
+use Rattle.residue.specs.Scans.{allBelow, all-below}
+use Rattle.code.specs.Lent.{lent}
+use Rattle.code.specs.Parameters.{limits, rowLengths, rowWords, row-lengths, lent-coding}
+use Rattle.code.specs.Encoding.{encodeLengths, encoding, Encodes}
+use Rattle.code.specs.Steps.{Spreading, Lifting}
+use Rattle.code.proofs.Spreads.{length-spreaded, spreaded}
+
+-- the job's tests have passed
+pub encodes : (d c : ℕ) (g t t' m : List ℕ) (n : ℕ) → encoding d c g t t' m n ≡ done tt → Encodes d g t t' m n
+unfolding encoding encodeLengths
+encodes d c g t t' m n e =
+    let a = both-done (limits d c) e .0 in
+    let b = must-done (encodeLengths d c (length g) (length t) (length t') (length m) n) 3 _ a in
+    let k = must-done (rowWords g t t' && allBelow m) 4 _ (b .1) in
+    let l = and-both (rowLengths d c (length g) (length t) (length t')) _ (b .0) in
+    let s = and-both (eqb (length m) (2 ^ d)) _ (l .1) in
+    let w = and-both (rowWords g t t') _ (k .0) in
+    record {
+      coding = lent-coding d c g t t' (l .0) (w .0) (k .1);
+      message = eqb-true _ _ (s .0);
+      words = all-below m (w .1);
+      size = eqb-true _ _ (s .1) ∙ ap (λ r. blockSize r d) (sym (row-lengths d c _ _ _ (l .0) .row));
+    }
+
+module _ (d : ℕ) (g t t' m out : List ℕ) (𝓔 : Encodes d g t t' m (length out)) where
+  blocks : blockSize (length g) d ≡ length m * length g
+  blocks = mul-comm (length g) (2 ^ d) ∙ ap (λ k. k * length g) (sym (𝓔 .message))
+
+  pub spreading : Spreading m g out
+  spreading = record { message = 𝓔 .words; row = 𝓔 .coding .row; size = 𝓔 .size ∙ blocks }
+
+  pub lifting : (w : List ℕ) → w ≡ spreaded m g → Lifting d g t t' w
+  lifting w e =
+      record { coding = 𝓔 .coding; size = ap length e ∙ length-spreaded m g ∙ sym blocks; block = rw e (low-words 𝔽₁ _) }
+
+  pub encoded : (w r : List ℕ) → w ≡ spreaded m g → r ≡ toWords 𝔽₁ (lift F (lent g t t') d (elements 𝔽₁ w)) → r ≡ toWords 𝔽₁ (encode F (lent g t t') d (elements 𝔽₁ m))
+  encoded w r e q =
+      q ∙ ap (λ v. toWords 𝔽₁ (lift F (lent g t t') d v)) (ap (elements 𝔽₁) e ∙ elements-words 𝔽₁ _)
+      ∙ ap (toWords 𝔽₁) (lift-spread F (elements 𝔽₁ g) _ _ d (𝓔 .coding .legal) (elements 𝔽₁ m) (length-elements 𝔽₁ m ∙ 𝓔 .message))

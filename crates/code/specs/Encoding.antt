@@ -1,0 +1,41 @@
+-- The job of encoding: its answer and its result, for every input. Assumes nothing.
+use mathlib.Core.Path.{_≡_}
+use mathlib.Core.Bool.{Bool, _&&_}
+use mathlib.Core.List.{List}
+use Prim.Native.Nat.{ℕ, _^_}
+use lib.Dec.{eqb}
+use lib.ListN.{length}
+use Rattle.algebra.specs.Words.{𝔽₁}
+use Rattle.algebra.specs.WordLists.{Low, elements, toWords}
+use Rattle.foldable.specs.Code.{encode}
+use Rattle.job.specs.declared.Answer.{Answer}
+use Rattle.job.specs.Outcome.{Outcome, outcome, must, _⨾_, kept}
+use Rattle.job.specs.Limits.{blockSize}
+use Rattle.residue.specs.Residues.{P, F}
+use Rattle.residue.specs.Scans.{allBelow}
+use Rattle.code.specs.Lent.{lent, Coding}
+use Rattle.code.specs.Parameters.{limits, rowLengths, rowWords, legalRow}
+
+-- of the lengths of g, T, T', message and result
+unfoldable pub encodeLengths : ℕ → ℕ → ℕ → ℕ → ℕ → ℕ → ℕ → Bool
+encodeLengths d c g t t' m n = rowLengths d c g t t' && (eqb m (2 ^ d) && eqb n (blockSize c d))
+
+-- the outcome, with a result of n words
+unfoldable pub encoding : ℕ → ℕ → List ℕ → List ℕ → List ℕ → List ℕ → ℕ → Outcome (Unit {0})
+encoding d c g t t' m n =
+    limits d c
+    ⨾ must (encodeLengths d c (length g) (length t) (length t') (length m) n) 3
+    (must (rowWords g t t' && allBelow m) 4
+    (legalRow g t t'))
+
+-- answer r and result out: refused as above, and out as it was; or out is the message times the generator matrix
+pub record Encoded (d c : ℕ) (g t t' m old : List ℕ) (r : Answer) (out : List ℕ) : Type 0 where
+  pub answer : outcome r ≡ encoding d c g t t' m (length old)
+  pub result : out ≡ kept (encoding d c g t t' m (length old)) old (toWords 𝔽₁ (encode F (lent g t t') d (elements 𝔽₁ m)))
+
+-- what the work is lent: exact lengths, words below the modulus, a legal row and diagonals
+pub record Encodes (d : ℕ) (g t t' m : List ℕ) (n : ℕ) : Type 0 where
+  pub coding : Coding d g t t'
+  pub message : length m ≡ 2 ^ d
+  pub words : Low P m
+  pub size : n ≡ blockSize (length g) d
