@@ -12,7 +12,7 @@ use Rattle.algebra.specs.Words.{𝔽₁}
 use Rattle.algebra.specs.WordLists.{low-words, elements, toWords, elements-words, length-elements}
 use Rattle.foldable.specs.Code.{encode}
 use Rattle.foldable.specs.Lift.{lift, lift-spread}
-use Rattle.job.specs.Outcome.{done, must-done, both-done}
+use Rattle.job.specs.Outcome.{done, require-done, both-done}
 use Rattle.job.specs.Limits.{blockSize}
 use Rattle.residue.specs.Residues.{F}
 use Rattle.residue.specs.Scans.{allBelow, all-below}
@@ -27,8 +27,8 @@ pub encodes : (d c : ℕ) (g t t' m : List ℕ) (n : ℕ) → encoding d c g t t
 unfolding encoding encodeLengths
 encodes d c g t t' m n e =
     let a = both-done (limits d c) e .0 in
-    let b = must-done (encodeLengths d c (length g) (length t) (length t') (length m) n) 3 _ a in
-    let k = must-done (rowWords g t t' && allBelow m) 4 _ (b .1) in
+    let b = require-done (encodeLengths d c (length g) (length t) (length t') (length m) n) 3 a in
+    let k = require-done (rowWords g t t' && allBelow m) 4 (b .1) in
     let l = and-both (rowLengths d c (length g) (length t) (length t')) _ (b .0) in
     let s = and-both (eqb (length m) (2 ^ d)) _ (l .1) in
     let w = and-both (rowWords g t t') _ (k .0) in

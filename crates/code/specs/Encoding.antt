@@ -9,7 +9,7 @@ use Rattle.algebra.specs.Words.{𝔽₁}
 use Rattle.algebra.specs.WordLists.{Low, elements, toWords}
 use Rattle.foldable.specs.Code.{encode}
 use Rattle.job.specs.declared.Answer.{Answer}
-use Rattle.job.specs.Outcome.{Outcome, outcome, must, _⨾_, kept}
+use Rattle.job.specs.Outcome.{Outcome, outcome, require, _⨾_, kept}
 use Rattle.job.specs.Limits.{blockSize}
 use Rattle.residue.specs.Residues.{P, F}
 use Rattle.residue.specs.Scans.{allBelow}
@@ -24,9 +24,8 @@ encodeLengths d c g t t' m n = rowLengths d c g t t' && (eqb m (2 ^ d) && eqb n 
 unfoldable pub encoding : ℕ → ℕ → List ℕ → List ℕ → List ℕ → List ℕ → ℕ → Outcome (Unit {0})
 encoding d c g t t' m n =
     limits d c
-    ⨾ must (encodeLengths d c (length g) (length t) (length t') (length m) n) 3
-    (must (rowWords g t t' && allBelow m) 4
-    (legalRow g t t'))
+    ⨾ require (encodeLengths d c (length g) (length t) (length t') (length m) n) 3
+    ⨾ require (rowWords g t t' && allBelow m) 4 ⨾ legalRow g t t'
 
 -- answer r and result out: refused as above, and out as it was; or out is the message times the generator matrix
 pub record Encoded (d c : ℕ) (g t t' m old : List ℕ) (r : Answer) (out : List ℕ) : Type 0 where

@@ -41,6 +41,10 @@ abbrev pub _⨾_ : {A B : Type 0} → Outcome A → Outcome B → Outcome B
 refused n ⨾ next = refused n
 done a ⨾ next = next
 
+-- a test that must hold
+abbrev pub require : Bool → ℕ → Outcome (Unit {0})
+require b n = must b n (done tt)
+
 -- a buffer afterwards: as it was where a refusal was due, else new
 abbrev pub kept : {A B : Type 0} → Outcome A → List B → List B → List B
 kept (refused n) old new = old
@@ -68,6 +72,16 @@ after-refused next e = ap (λ o. o ⨾ next) e
 
 pub after-done : {A B : Type 0} {o : Outcome A} {next x : Outcome B} {a : A} → done a ≡ o → x ≡ next → x ≡ o ⨾ next
 after-done {next = next} e f = f ∙ ap (λ o. o ⨾ next) e
+
+pub stop : {B : Type 0} {b : Bool} {n : ℕ} (next : Outcome B) → b ≡ false → refused n ≡ require b n ⨾ next
+stop {n = n} next e = sym (ap (λ t. require t n ⨾ next) e)
+
+pub pass : {B : Type 0} {b : Bool} (n : ℕ) {next x : Outcome B} → b ≡ true → x ≡ next → x ≡ require b n ⨾ next
+pass n {next = next} e f = f ∙ sym (ap (λ t. require t n ⨾ next) e)
+
+pub require-done : {B : Type 0} (b : Bool) (n : ℕ) {next : Outcome B} {a : B} → require b n ⨾ next ≡ done a → (b ≡ true) × (next ≡ done a)
+require-done true n e = (refl, e)
+require-done false n e = absurd (let z : _≡_ {A = ℕ} 0 1 = cc in omega arith)
 
 pub both-done : {A B : Type 0} (o : Outcome A) {next : Outcome B} {b : B} → o ⨾ next ≡ done b → (next ≡ done b) × ((n : ℕ) → o ≡ refused n → ⊥)
 both-done (refused n) e = absurd (let z : _≡_ {A = ℕ} 0 1 = cc in omega arith)

@@ -8,7 +8,8 @@ use lib.ListN.{length, getD}
 use borrow.Author.Tests.{ltb-true, not-true, eqb-false}
 use Rattle.algebra.specs.Tests.{all, all₂, all-at, all₂-at}
 use Rattle.algebra.specs.WordLists.{Low}
-use Rattle.residue.specs.Residues.{P}
+use Rattle.algebra.specs.Words.{𝔽₁}
+use Rattle.residue.specs.Residues.{P, Element, word}
 
 abbrev pub allBelow : List ℕ → Bool
 allBelow ws = all (λ x. ltb x P) ws
@@ -27,3 +28,7 @@ none-zero ws e k h = eqb-false _ _ (not-true _ (all-at (λ x. not (eqb x 0)) ws 
 
 pub all-differ : (ws vs : List ℕ) → allDiffer ws vs ≡ true → (k : ℕ) → k < length ws → k < length vs → getD ws k 0 ≡ getD vs k 0 → ⊥
 all-differ ws vs e k h l = eqb-false _ _ (not-true _ (all₂-at (λ x y. not (eqb x y)) ws vs 0 e k h l))
+
+-- a word that stands for an element is below the modulus
+pub is-low : {w : ℕ} (v : Element) → w ≡ word v → w < P
+is-low v e = rw e (𝔽₁ .words .val-lt v)

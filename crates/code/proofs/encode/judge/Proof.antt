@@ -1,10 +1,10 @@
+use Rattle.job.specs.Outcome.{stop, pass, outcome, after-refused, after-done}
 use Rattle.residue.specs.Scans.{allBelow}
 use mathlib.Core.Path.{sym, ap, ap₂, _∙_}
 use mathlib.Core.Bool.{_&&_}
 use lib.ListN.{length}
 use Rattle.algebra.specs.Tests.{and-both}
 use Rattle.job.specs.Flags.{passes, fails}
-use Rattle.job.specs.Outcome.{outcome, must-true, must-false, after-refused, after-done}
 use Rattle.code.specs.Parameters.{limits, within, row-lengths}
 use Rattle.code.specs.Encoding.{encodeLengths, encoding}
 use borrow.Author.Needs.{needs}
@@ -29,21 +29,21 @@ lengths-ok-requires c κs = let a = c .before .before .before .before .before .b
 
 returns-2 : tie.Need-returns-2
 unfolding encoding
-returns-2 c = after-done (ap outcome (sym (c .before .before .enum-told .given .1)) ∙ c .before .before .before .before .limits .ensures) (sym (must-false 3 _ (fails (c .before .lengths-ok .ensures) (c .if1 .taken))))
+returns-2 c = after-done (ap outcome (sym (c .before .before .enum-told .given .1)) ∙ c .before .before .before .before .limits .ensures) (stop _ (fails (c .before .lengths-ok .ensures) (c .if1 .taken)))
 
 words-ok-requires : tie.Need-words-ok-requires
 words-ok-requires c κs = search needs
 
 returns-3 : tie.Need-returns-3
 unfolding encoding
-returns-3 c = after-done (ap outcome (sym (c .before .before .before .before .enum-told .given .1)) ∙ c .before .before .before .before .before .before .limits .ensures) (sym (must-true 3 _ (passes (c .before .before .before .lengths-ok .ensures) (c .before .before .if1 .left)) ∙ must-false 4 _ (ap (λ x. x && allBelow (c .before .before .before .before .before .before .before .before .before .before .before .args .m .now)) (fails (c .before .words-ok .ensures) (c .if2 .taken)))))
+returns-3 c = after-done (ap outcome (sym (c .before .before .before .before .enum-told .given .1)) ∙ c .before .before .before .before .before .before .limits .ensures) (pass 3 (passes (c .before .before .before .lengths-ok .ensures) (c .before .before .if1 .left)) (stop _ (ap (λ x. x && allBelow (c .before .before .before .before .before .before .before .before .before .before .before .args .m .now)) (fails (c .before .words-ok .ensures) (c .if2 .taken)))))
 
 all-below-requires : tie.Need-all-below-requires
 all-below-requires c κs = search needs
 
 returns-4 : tie.Need-returns-4
 unfolding encoding
-returns-4 c = after-done (ap outcome (sym (c .before .before .before .before .before .before .enum-told .given .1)) ∙ c .before .before .before .before .before .before .before .before .limits .ensures) (sym (must-true 3 _ (passes (c .before .before .before .before .before .lengths-ok .ensures) (c .before .before .before .before .if1 .left)) ∙ must-false 4 _ (ap₂ _&&_ (passes (c .before .before .before .words-ok .ensures) (c .before .before .if2 .left)) (fails (c .before .all-below .ensures) (c .if3 .taken)))))
+returns-4 c = after-done (ap outcome (sym (c .before .before .before .before .before .before .enum-told .given .1)) ∙ c .before .before .before .before .before .before .before .before .limits .ensures) (pass 3 (passes (c .before .before .before .before .before .lengths-ok .ensures) (c .before .before .before .before .if1 .left)) (stop _ (ap₂ _&&_ (passes (c .before .before .before .words-ok .ensures) (c .before .before .if2 .left)) (fails (c .before .all-below .ensures) (c .if3 .taken)))))
 
 legal-requires : tie.Need-legal-requires
 unfolding encodeLengths
@@ -54,7 +54,7 @@ legal-requires c κs =
 
 returns-5 : tie.Need-returns-5
 unfolding encoding
-returns-5 c = c .legal .ensures ∙ after-done (ap outcome (sym (c .before .before .before .before .before .before .before .enum-told .given .1)) ∙ c .before .before .before .before .before .before .before .before .before .limits .ensures) (sym (must-true 3 _ (passes (c .before .before .before .before .before .before .lengths-ok .ensures) (c .before .before .before .before .before .if1 .left)) ∙ must-true 4 _ (ap₂ _&&_ (passes (c .before .before .before .before .words-ok .ensures) (c .before .before .before .if2 .left)) (passes (c .before .before .all-below .ensures) (c .before .if3 .left)))))
+returns-5 c = after-done (ap outcome (sym (c .before .before .before .before .before .before .before .enum-told .given .1)) ∙ c .before .before .before .before .before .before .before .before .before .limits .ensures) (pass 3 (passes (c .before .before .before .before .before .before .lengths-ok .ensures) (c .before .before .before .before .before .if1 .left)) (pass 4 (ap₂ _&&_ (passes (c .before .before .before .before .words-ok .ensures) (c .before .before .before .if2 .left)) (passes (c .before .before .all-below .ensures) (c .before .if3 .left))) (c .legal .ensures)))
 
 pub judge-spec : {M : Type 1} → statement M
 judge-spec =

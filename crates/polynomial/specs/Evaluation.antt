@@ -1,0 +1,38 @@
+-- The job of evaluation: its answer for every input. Assumes nothing.
+use mathlib.Core.Path.{_≡_}
+use mathlib.Core.Bool.{Bool, _&&_}
+use mathlib.Core.List.{List}
+use Prim.Native.Nat.{ℕ, _^_}
+use lib.Dec.{eqb}
+use lib.ListN.{length}
+use Rattle.algebra.specs.Words.{𝔽₁}
+use Rattle.algebra.specs.WordLists.{Low, elements}
+use Rattle.job.specs.Outcome.{Outcome, refused, done, number, require, _⨾_}
+use Rattle.job.specs.Limits.{depthOk}
+use Rattle.multilinear.specs.Polynomial.{poly}
+use Rattle.residue.specs.Residues.{P, K, word}
+use Rattle.residue.specs.Scans.{allBelow}
+use Rattle.polynomial.specs.declared.Evaluation.{Evaluation}
+use Rattle.polynomial.specs.declared.Evaluation.the-variants.{Value, Refused}
+
+-- what an answer says: the value's word, or the refusal's number
+abbrev pub outcome : Evaluation → Outcome ℕ
+outcome (Value v) = done v
+outcome (Refused r) = refused (number r)
+
+-- of the lengths of message and point
+unfoldable pub evaluateLengths : ℕ → ℕ → ℕ → Bool
+evaluateLengths d m z = eqb m (2 ^ d) && eqb z d
+
+unfoldable pub judged : ℕ → List ℕ → List ℕ → Outcome (Unit {0})
+judged d m z = require (depthOk d) 1 ⨾ require (evaluateLengths d (length m) (length z)) 3 ⨾ require (allBelow m && allBelow z) 4
+
+-- the polynomial's value at the point
+abbrev pub evaluation : ℕ → List ℕ → List ℕ → Outcome ℕ
+evaluation d m z = judged d m z ⨾ done (word (poly K (elements 𝔽₁ m) (elements 𝔽₁ z)))
+
+-- what the work is lent: a word for each set of variables
+pub record Evaluates (m z : List ℕ) : Type 0 where
+  pub size : length m ≡ 2 ^ length z
+  pub message : Low P m
+  pub point : Low P z

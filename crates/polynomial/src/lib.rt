@@ -1,0 +1,74 @@
+// The value of the multilinear polynomial whose coefficients a message holds.
+ghost use mathlib.Core.Path.{_≡_};
+ghost use mathlib.Core.Bool.{true};
+ghost use lib.ListN.{length};
+ghost use Rattle.algebra.specs.Words.{𝔽₁};
+ghost use Rattle.algebra.specs.WordLists.{elements};
+ghost use Rattle.job.specs.Outcome.{outcome as outcomeOf};
+ghost use Rattle.job.specs.Limits.{depthOk};
+ghost use Rattle.multilinear.specs.Polynomial.{poly};
+ghost use Rattle.residue.specs.Residues.{K, word};
+ghost use Rattle.polynomial.specs.Evaluation.{Evaluates, evaluateLengths, judged, evaluation, outcome};
+use job::Answer;
+use job::Refusal;
+use residue::scan;
+use residue::word;
+
+pub enum Evaluation {
+    Value(u32),
+    Refused(Refusal),
+}
+
+// By the top variable: the value of the left half plus that variable times the value of the right half.
+pub fn value(m: &[u32], z: &[u32]) -> u32
+    requires { ⌜ Evaluates (now m) (now z) ⌝ }
+    ensures { λ v. ⌜ v ≡ word (poly K (elements 𝔽₁ (now (m .entry))) (elements 𝔽₁ (now (z .entry)))) ⌝ }
+{
+    let d = z.len();
+    if d == 0 {
+        return m[0];
+    }
+    let top = d - 1;
+    let half = m.len() / 2;
+    let l = value(&m[..half], &z[..top]);
+    let r = value(&m[half..], &z[..top]);
+    word::plus_product(l, z[top], r)
+}
+
+fn lengths_ok(depth: u32, m: usize, z: usize) -> bool
+    requires { ⌜ depthOk depth ≡ true ⌝ }
+    ensures { λ r. ⌜ r ≡ evaluateLengths depth m z ⌝ }
+{
+    if m != job::message_len(depth) {
+        return false;
+    }
+    z == depth as usize
+}
+
+fn judge(depth: u32, m: &[u32], z: &[u32]) -> Answer
+    ensures { λ r. ⌜ outcomeOf r ≡ judged depth (now (m .entry)) (now (z .entry)) ⌝ }
+{
+    if !job::depth_ok(depth) {
+        return Answer::Refused(Refusal::Depth);
+    }
+    if !lengths_ok(depth, m.len(), z.len()) {
+        return Answer::Refused(Refusal::Length);
+    }
+    if !scan::all_below(m) {
+        return Answer::Refused(Refusal::Word);
+    }
+    if !scan::all_below(z) {
+        return Answer::Refused(Refusal::Word);
+    }
+    Answer::Done
+}
+
+pub fn evaluate(depth: u32, message: &[u32], point: &[u32]) -> Evaluation
+    ensures { λ r. ⌜ outcome r ≡ evaluation depth (now (message .entry)) (now (point .entry)) ⌝ }
+{
+    let answer = judge(depth, message, point);
+    match answer {
+        Answer::Done => Evaluation::Value(value(message, point)),
+        Answer::Refused(r) => Evaluation::Refused(r),
+    }
+}
