@@ -1,0 +1,92 @@
+//! Clearances, and reading a word as one.
+
+use crate::answer::{Reading, Refusal};
+use crate::judge;
+use crate::residue::Residue;
+
+/// Largest clearance either way, in micrometres.
+pub const MAX_CLEARANCE: i32 = 1_073_741_823;
+
+/// The residue of a clearance: x itself, or p + x when x is negative; refusal 9 outside the range.
+pub fn to_residue(clearance: i32) -> Result<Residue, Refusal> {
+    let x = i64::from(clearance);
+    if x.abs() > i64::from(MAX_CLEARANCE) {
+        return Err(Refusal::Clearance);
+    }
+    let value = if x >= 0 {
+        x
+    } else {
+        i64::from(Residue::MODULUS) + x
+    };
+    let word = u32::try_from(value).expect("0 to p - 1");
+    Ok(Residue::new(word).expect("0 to p - 1"))
+}
+
+/// The clearance of a residue: the one number in the range whose residue it is.
+pub fn from_residue(residue: Residue) -> i32 {
+    let value = i64::from(residue.word());
+    let x = if value <= i64::from(MAX_CLEARANCE) {
+        value
+    } else {
+        value - i64::from(Residue::MODULUS)
+    };
+    i32::try_from(x).expect("a clearance")
+}
+
+/// Reading one word: zero or more is free (kind 1), below zero an overlap (kind 2). Refusal 4.
+pub fn read_clearance(word: u32) -> Reading {
+    let (number, kind, amount) = match judge::word(word) {
+        Err(refusal) => (refusal as u32, 0, 0),
+        Ok(residue) => match from_residue(residue) {
+            x if x >= 0 => (0, 1, x.unsigned_abs()),
+            x => (0, 2, x.unsigned_abs()),
+        },
+    };
+    Reading {
+        number,
+        kind,
+        amount,
+    }
+}
+
+#[cfg(test)]
+mod tests {
+    use super::*;
+    use crate::sample::Rng;
+
+    #[test]
+    fn every_residue_is_one_clearance() {
+        let mut rng = Rng::new(2);
+        let ends = [0, 1, -1, MAX_CLEARANCE, -MAX_CLEARANCE];
+        let any = (0..2000).map(|_| rng.word() as i32 % (MAX_CLEARANCE + 1));
+        for x in ends.into_iter().chain(any) {
+            assert_eq!(from_residue(to_residue(x).unwrap()), x);
+        }
+        let mut rng = Rng::new(3);
+        for _ in 0..2000 {
+            let residue = rng.residue();
+            assert_eq!(to_residue(from_residue(residue)), Ok(residue));
+        }
+    }
+
+    #[test]
+    fn outside_the_range() {
+        for x in [MAX_CLEARANCE + 1, -MAX_CLEARANCE - 1, i32::MAX, i32::MIN] {
+            assert_eq!(to_residue(x), Err(Refusal::Clearance));
+        }
+    }
+
+    #[test]
+    fn readings() {
+        let reading = |word| {
+            let r = read_clearance(word);
+            (r.number, r.kind, r.amount)
+        };
+        assert_eq!(reading(0), (0, 1, 0));
+        assert_eq!(reading(1_073_741_823), (0, 1, 1_073_741_823));
+        assert_eq!(reading(1_073_741_824), (0, 2, 1_073_741_823));
+        assert_eq!(reading(2_147_483_646), (0, 2, 1));
+        assert_eq!(reading(2_147_483_647), (4, 0, 0));
+        assert_eq!(reading(u32::MAX), (4, 0, 0));
+    }
+}

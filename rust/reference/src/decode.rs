@@ -1,0 +1,163 @@
+//! Decoding.
+
+use crate::answer::{Answer, Refusal};
+use crate::code::{Code, LentCode};
+use crate::encode::codeword;
+use crate::judge;
+use crate::residue::Residue;
+
+/// The message whose codeword a block is, none when it is no codeword.
+///
+/// If some message has the block as its codeword, undoing the code place by place gives exactly
+/// that message; so the block is a codeword just when the undone message encodes to it.
+pub fn message_of(code: &Code, block: &[Residue]) -> Option<Vec<Residue>> {
+    let differences = code.t.iter().zip(&code.t2).map(|(&t, &t2)| t2 - t);
+    let inverses: Vec<Residue> = differences
+        .map(|difference| difference.inverse().expect("T and T' differ"))
+        .collect();
+    let message = undo(code, &inverses, code.sizes.depth, block);
+    (codeword(code, code.sizes.depth, &message) == block).then_some(message)
+}
+
+/// Undoes the code: at each place the slope of the line is Enc(r), its value at 0 is Enc(l).
+/// `inverses` holds 1/(T' - T) in the layout of T.
+fn undo(code: &Code, inverses: &[Residue], level: usize, block: &[Residue]) -> Vec<Residue> {
+    if level == 0 {
+        let inverse = code.g[0].inverse().expect("no zero in the base row");
+        return vec![block[0] * inverse];
+    }
+    let t = code.t(level - 1);
+    let inverses_here = &inverses[code.sizes.diagonal(level - 1)];
+    let (low, high) = block.split_at(t.len());
+    let slope = |j: usize| (high[j] - low[j]) * inverses_here[j];
+    let right: Vec<Residue> = (0..t.len()).map(slope).collect();
+    let left: Vec<Residue> = (0..t.len()).map(|j| low[j] - t[j] * right[j]).collect();
+    let halves = [&left, &right].map(|half| undo(code, inverses, level - 1, half));
+    halves.concat()
+}
+
+/// The decoding job. Refusals 1 to 6 and 8. The work buffer is zero after success and after 8.
+pub fn decode(lent: LentCode, block: &[u32], message: &mut [u32], work: &mut [u32]) -> Answer {
+    try_decode(lent, block, message, work).into()
+}
+
+fn try_decode(
+    lent: LentCode,
+    block: &[u32],
+    message: &mut [u32],
+    work: &mut [u32],
+) -> Result<(), Refusal> {
+    let (code, [block]) = lent.judge(
+        |sizes| {
+            vec![
+                (block.len(), sizes.top_block()),
+                (message.len(), sizes.message()),
+                (work.len(), sizes.top_block()),
+            ]
+        },
+        [block],
+    )?;
+    work.fill(0);
+    let found = message_of(&code, &block).ok_or(Refusal::NoCodeword)?;
+    judge::write(message, &found);
+    Ok(())
+}
+
+#[cfg(test)]
+mod tests {
+    use super::*;
+    use crate::code::tests::sample_code;
+    use crate::sample::{Rng, STYLES};
+    use crate::sizes::Sizes;
+
+    /// Solves message * matrix = block by elimination: a second way, without any line.
+    fn message_by_elimination(code: &Code, block: &[Residue]) -> Option<Vec<Residue>> {
+        let matrix = code.matrix(code.sizes.depth);
+        let unknowns = matrix.len();
+        let equation = |j: usize| -> Vec<Residue> {
+            let left = matrix.iter().map(|row| row[j]);
+            left.chain([block[j]]).collect()
+        };
+        let mut equations: Vec<_> = (0..block.len()).map(equation).collect();
+        for k in 0..unknowns {
+            let pivot = (k..equations.len()).find(|&e| equations[e][k] != Residue::ZERO)?;
+            equations.swap(k, pivot);
+            let inverse = equations[k][k].inverse()?;
+            let row: Vec<_> = equations[k].iter().map(|&x| x * inverse).collect();
+            for (e, equation) in equations.iter_mut().enumerate() {
+                let factor = equation[k];
+                if e != k {
+                    for (x, &y) in equation.iter_mut().zip(&row) {
+                        *x = *x - factor * y;
+                    }
+                }
+            }
+            equations[k] = row;
+        }
+        let solvable = equations[unknowns..]
+            .iter()
+            .all(|e| e[unknowns] == Residue::ZERO);
+        solvable.then(|| equations[..unknowns].iter().map(|e| e[unknowns]).collect())
+    }
+
+    #[test]
+    fn codewords_and_every_single_word_moved() {
+        let mut rng = Rng::new(11);
+        for depth in 0..=3 {
+            for rate in [2, 3, 5, 16] {
+                for style in STYLES {
+                    let code = sample_code(&mut rng, Sizes { depth, rate }, style);
+                    let message = rng.residues(1 << depth, style);
+                    let block = codeword(&code, depth, &message);
+                    assert_eq!(message_of(&code, &block), Some(message.clone()));
+                    assert_eq!(message_by_elimination(&code, &block), Some(message));
+                    for j in 0..block.len() {
+                        let mut moved = block.clone();
+                        moved[j] = moved[j] + Residue::ONE;
+                        let found = message_of(&code, &moved);
+                        assert_eq!(found, message_by_elimination(&code, &moved));
+                    }
+                }
+            }
+        }
+    }
+
+    #[test]
+    fn any_block() {
+        let mut rng = Rng::new(12);
+        let mut codewords = 0;
+        for _ in 0..300 {
+            let sizes = Sizes {
+                depth: rng.below(3),
+                rate: 2,
+            };
+            let style = rng.pick(&STYLES);
+            let code = sample_code(&mut rng, sizes, style);
+            let block = rng.residues(sizes.top_block(), STYLES[2]);
+            let found = message_of(&code, &block);
+            assert_eq!(found, message_by_elimination(&code, &block));
+            codewords += usize::from(found.is_some());
+        }
+        assert!(codewords > 0);
+    }
+
+    #[test]
+    fn work_and_result() {
+        let lent = LentCode {
+            depth: 0,
+            rate: 2,
+            g: &[1, 2],
+            t: &[],
+            t2: &[],
+        };
+        let (mut message, mut work) = ([7], [8, 8]);
+        let answer = decode(lent, &[3, 7], &mut message, &mut work);
+        assert_eq!((answer.number, message, work), (8, [7], [0, 0]));
+        let mut work = [8, 8];
+        let answer = decode(lent, &[3, 6], &mut message, &mut work);
+        assert_eq!((answer.number, message, work), (0, [3], [0, 0]));
+        let mut work = [8, 8];
+        let answer = decode(lent, &[u32::MAX, 6], &mut message, &mut work);
+        assert_eq!((answer.number, message, work), (4, [3], [8, 8]));
+    }
+}

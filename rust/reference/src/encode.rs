@@ -1,0 +1,107 @@
+//! Encoding.
+
+use crate::answer::{Answer, Refusal};
+use crate::code::{times, Code, LentCode};
+use crate::judge;
+use crate::residue::Residue;
+use crate::LITERAL_DEPTH;
+
+/// The codeword of a message of a level, literally: the message times the generator matrix.
+pub fn by_matrix(code: &Code, level: usize, message: &[Residue]) -> Vec<Residue> {
+    let matrix = code.matrix(level);
+    assert_eq!(matrix.len(), message.len());
+    let column = |j| {
+        message
+            .iter()
+            .zip(&matrix)
+            .map(|(&m, row)| m * row[j])
+            .sum()
+    };
+    (0..code.sizes.block(level)).map(column).collect()
+}
+
+/// The same by halves: Enc(l) + T*Enc(r), then Enc(l) + T'*Enc(r).
+pub fn by_halves(code: &Code, level: usize, message: &[Residue]) -> Vec<Residue> {
+    if level == 0 {
+        return code.g.iter().map(|&g| message[0] * g).collect();
+    }
+    let (l, r) = message.split_at(message.len() / 2);
+    let left = by_halves(code, level - 1, l);
+    let right = by_halves(code, level - 1, r);
+    let half = |diagonal: &[Residue]| -> Vec<Residue> {
+        let products = times(&right, diagonal);
+        left.iter().zip(products).map(|(&a, b)| a + b).collect()
+    };
+    [half(code.t(level - 1)), half(code.t2(level - 1))].concat()
+}
+
+/// The codeword of a message of a level.
+pub fn codeword(code: &Code, level: usize, message: &[Residue]) -> Vec<Residue> {
+    if level <= LITERAL_DEPTH {
+        by_matrix(code, level, message)
+    } else {
+        by_halves(code, level, message)
+    }
+}
+
+/// The encoding job. Refusals 1 to 6.
+pub fn encode(lent: LentCode, message: &[u32], block: &mut [u32]) -> Answer {
+    try_encode(lent, message, block).into()
+}
+
+fn try_encode(lent: LentCode, message: &[u32], block: &mut [u32]) -> Result<(), Refusal> {
+    let (code, [message]) = lent.judge(
+        |sizes| {
+            vec![
+                (message.len(), sizes.message()),
+                (block.len(), sizes.top_block()),
+            ]
+        },
+        [message],
+    )?;
+    judge::write(block, &codeword(&code, code.sizes.depth, &message));
+    Ok(())
+}
+
+#[cfg(test)]
+mod tests {
+    use super::*;
+    use crate::code::tests::sample_code;
+    use crate::sample::{Rng, STYLES};
+    use crate::sizes::Sizes;
+
+    #[test]
+    fn both_forms_agree() {
+        let mut rng = Rng::new(7);
+        for depth in 0..=7 {
+            for rate in 2..=16 {
+                for style in STYLES {
+                    let code = sample_code(&mut rng, Sizes { depth, rate }, style);
+                    let message = rng.residues(1 << depth, style);
+                    let literal = by_matrix(&code, depth, &message);
+                    assert_eq!(by_halves(&code, depth, &message), literal);
+                }
+            }
+        }
+    }
+
+    #[test]
+    fn a_call_of_smaller_depth_uses_the_lower_levels() {
+        let mut rng = Rng::new(8);
+        let sizes = Sizes { depth: 5, rate: 3 };
+        let code = sample_code(&mut rng, sizes, STYLES[0]);
+        for depth in 0..5 {
+            let lower = Sizes { depth, ..sizes };
+            let message = rng.residues(1 << depth, STYLES[0]);
+            let small = Code {
+                sizes: lower,
+                g: code.g.clone(),
+                t: code.t[..lower.diagonals()].to_vec(),
+                t2: code.t2[..lower.diagonals()].to_vec(),
+            };
+            let expected = by_matrix(&code, depth, &message);
+            assert_eq!(by_matrix(&small, depth, &message), expected);
+            assert_eq!(codeword(&small, depth, &message), expected);
+        }
+    }
+}

@@ -1,0 +1,128 @@
+//! Folding by one level.
+
+use crate::answer::{Answer, Refusal};
+use crate::judge;
+use crate::residue::Residue;
+use crate::sizes::Sizes;
+
+/// The value at `a` of the straight line through (x, w) and (x2, w2). The two places must differ:
+/// the inverse of zero is never made up.
+pub fn line(x: Residue, w: Residue, x2: Residue, w2: Residue, a: Residue) -> Residue {
+    let inverse = (x2 - x).inverse().expect("two different places");
+    let slope = (w2 - w) * inverse;
+    w + slope * (a - x)
+}
+
+/// The fold of a block by `a`: at j the line through (T[j], w[j]) and (T'[j], w[j+n]), at a.
+pub fn fold_block(t: &[Residue], t2: &[Residue], block: &[Residue], a: Residue) -> Vec<Residue> {
+    let (low, high) = block.split_at(t.len());
+    let place = |j: usize| line(t[j], low[j], t2[j], high[j], a);
+    (0..t.len()).map(place).collect()
+}
+
+/// The folding job: `level` is the upper level, `t` and `t2` are only the level below's words.
+/// Refusals 1, 2, 3, 4, 6.
+pub fn fold(
+    level: u32,
+    rate: u32,
+    t: &[u32],
+    t2: &[u32],
+    block: &[u32],
+    challenge: u32,
+    out: &mut [u32],
+) -> Answer {
+    try_fold(level, rate, t, t2, block, challenge, out).into()
+}
+
+fn try_fold(
+    level: u32,
+    rate: u32,
+    t: &[u32],
+    t2: &[u32],
+    block: &[u32],
+    challenge: u32,
+    out: &mut [u32],
+) -> Result<(), Refusal> {
+    let depth = judge::upper_level(level)?;
+    let rate = judge::rate(rate)?;
+    let sizes = Sizes { depth, rate };
+    let (upper, lower) = (sizes.block(depth), sizes.block(depth - 1));
+    judge::lengths(&[
+        (t.len(), lower),
+        (t2.len(), lower),
+        (block.len(), upper),
+        (out.len(), lower),
+    ])?;
+    let t = judge::words(t)?;
+    let t2 = judge::words(t2)?;
+    let block = judge::words(block)?;
+    let challenge = judge::word(challenge)?;
+    judge::diagonals(&t, &t2)?;
+    judge::write(out, &fold_block(&t, &t2, &block, challenge));
+    Ok(())
+}
+
+#[cfg(test)]
+mod tests {
+    use super::*;
+    use crate::code::tests::sample_code;
+    use crate::encode::by_matrix;
+    use crate::sample::{Rng, STYLES};
+
+    #[test]
+    fn the_line_meets_both_places() {
+        let mut rng = Rng::new(9);
+        for _ in 0..500 {
+            for style in STYLES {
+                let (x, w, w2) = (rng.styled(style), rng.styled(style), rng.styled(style));
+                let x2 = x + Residue::ONE + rng.styled(STYLES[2]);
+                assert_eq!(line(x, w, x2, w2, x), w);
+                assert_eq!(line(x, w, x2, w2, x2), w2);
+                // Three values of a straight line at equal steps: the middle is the mean.
+                let (a, step) = (rng.styled(style), rng.styled(style));
+                let at = |place| line(x, w, x2, w2, place);
+                let mean = (at(a - step) + at(a + step)) * Residue::HALF;
+                assert_eq!(at(a), mean);
+            }
+        }
+    }
+
+    #[test]
+    fn the_fold_of_a_codeword_encodes_the_folded_message() {
+        let mut rng = Rng::new(10);
+        for depth in 1..=5 {
+            for rate in 2..=16 {
+                for style in STYLES {
+                    let code = sample_code(&mut rng, Sizes { depth, rate }, style);
+                    let message = rng.residues(1 << depth, style);
+                    let a = rng.styled(style);
+                    let block = by_matrix(&code, depth, &message);
+                    let folded = fold_block(code.t(depth - 1), code.t2(depth - 1), &block, a);
+                    let (l, r) = message.split_at(message.len() / 2);
+                    let small: Vec<_> = l.iter().zip(r).map(|(&l, &r)| l + a * r).collect();
+                    assert_eq!(folded, by_matrix(&code, depth - 1, &small));
+                }
+            }
+        }
+    }
+
+    #[test]
+    fn refusals() {
+        let p = Residue::MODULUS;
+        let number = |level, rate, t: &[u32], t2: &[u32], block: &[u32], a, out: usize| {
+            let mut result = vec![7; out];
+            let answer = fold(level, rate, t, t2, block, a, &mut result);
+            assert!(answer.number == 0 || result.iter().all(|&word| word == 7));
+            answer.number
+        };
+        let (t, t2, block) = ([2, 3], [4, 5], [1, 2, 3, 4]);
+        assert_eq!(number(1, 2, &t, &t2, &block, 0, 2), 0);
+        assert_eq!(number(0, 1, &t, &t2, &block, 0, 2), 1);
+        assert_eq!(number(17, 2, &t, &t2, &block, 0, 2), 1);
+        assert_eq!(number(1, 17, &t, &t2, &block, p, 3), 2);
+        assert_eq!(number(1, 2, &t, &t2, &block, p, 3), 3);
+        assert_eq!(number(1, 2, &t, &t, &block, p, 2), 4);
+        assert_eq!(number(1, 2, &t, &[4, p], &block, 0, 2), 4);
+        assert_eq!(number(1, 2, &t, &[4, 3], &block, 0, 2), 6);
+    }
+}

@@ -1,0 +1,88 @@
+//! The refusals, one function per number. A job calls them in ascending order, so that the
+//! smallest number that applies is the one given.
+
+use crate::answer::Refusal;
+use crate::residue::Residue;
+use crate::sizes::{Sizes, MAX_DEPTH, MAX_QUERIES, MAX_TABLE, RATES};
+
+fn demand(holds: bool, refusal: Refusal) -> Result<(), Refusal> {
+    if holds {
+        Ok(())
+    } else {
+        Err(refusal)
+    }
+}
+
+/// 1: the depth is 0 to 16.
+pub fn depth(depth: u32) -> Result<usize, Refusal> {
+    demand(depth <= MAX_DEPTH, Refusal::Size)?;
+    Ok(depth as usize)
+}
+
+/// 1, for folding: the upper level is 1 to 16.
+pub fn upper_level(level: u32) -> Result<usize, Refusal> {
+    demand((1..=MAX_DEPTH).contains(&level), Refusal::Size)?;
+    Ok(level as usize)
+}
+
+/// 1, for tables: the length is a power of two from 1 to 65536. Gives the depth.
+pub fn table_length(length: usize) -> Result<usize, Refusal> {
+    let legal = length.is_power_of_two() && length <= MAX_TABLE;
+    demand(legal, Refusal::Size)?;
+    Ok(length.trailing_zeros() as usize)
+}
+
+/// 2: the rate is 2 to 16.
+pub fn rate(rate: u32) -> Result<usize, Refusal> {
+    demand(RATES.contains(&rate), Refusal::Rate)?;
+    Ok(rate as usize)
+}
+
+/// 3: every length found is the length due; pairs of found and due.
+pub fn lengths(pairs: &[(usize, usize)]) -> Result<(), Refusal> {
+    demand(
+        pairs.iter().all(|(found, due)| found == due),
+        Refusal::Length,
+    )
+}
+
+/// 4: every word is below p. Gives the residues.
+pub fn words(words: &[u32]) -> Result<Vec<Residue>, Refusal> {
+    words.iter().map(|&word| self::word(word)).collect()
+}
+
+/// 4, for a single value.
+pub fn word(word: u32) -> Result<Residue, Refusal> {
+    Residue::new(word).ok_or(Refusal::Word)
+}
+
+/// 5: no zero in the base row.
+pub fn row(g: &[Residue]) -> Result<(), Refusal> {
+    demand(!g.contains(&Residue::ZERO), Refusal::ZeroInRow)
+}
+
+/// 6: T and T' differ in every place.
+pub fn diagonals(t: &[Residue], t2: &[Residue]) -> Result<(), Refusal> {
+    demand(t.iter().zip(t2).all(|(a, b)| a != b), Refusal::EqualPair)
+}
+
+/// 7: at depth 0 no query; else 1 to 256 places below n_(d-1), repeated or not.
+pub fn queries(queries: &[u32], sizes: &Sizes) -> Result<Vec<usize>, Refusal> {
+    if sizes.depth == 0 {
+        demand(queries.is_empty(), Refusal::Queries)?;
+        return Ok(Vec::new());
+    }
+    let count = (1..=MAX_QUERIES).contains(&queries.len());
+    let below = sizes.block(sizes.depth - 1);
+    let places = queries.iter().all(|&place| (place as usize) < below);
+    demand(count && places, Refusal::Queries)?;
+    Ok(queries.iter().map(|&place| place as usize).collect())
+}
+
+/// Writes residues into a result buffer of their exact length.
+pub fn write(result: &mut [u32], residues: &[Residue]) {
+    assert_eq!(result.len(), residues.len());
+    for (word, residue) in result.iter_mut().zip(residues) {
+        *word = residue.word();
+    }
+}

@@ -1,0 +1,95 @@
+//! Writing an opening.
+
+use crate::answer::{Answer, Refusal};
+use crate::code::{Code, LentCode};
+use crate::encode::codeword;
+use crate::fold::fold_block;
+use crate::judge;
+use crate::polynomial;
+use crate::residue::Residue;
+use crate::sumcheck::rounds;
+
+/// The opening of a message: h_d to h_1, then v = f(r), then the blocks of level d-1 to 0, each
+/// the fold of the one above it by its challenge.
+pub fn opening_of(code: &Code, message: &[Residue], z: &[Residue], r: &[Residue]) -> Vec<Residue> {
+    let depth = code.sizes.depth;
+    let mut opening = rounds(message, z, r).concat();
+    opening.push(polynomial::value(message, r));
+    let mut block = codeword(code, depth, message);
+    for i in (0..depth).rev() {
+        block = fold_block(code.t(i), code.t2(i), &block, r[i]);
+        opening.extend_from_slice(&block);
+    }
+    opening
+}
+
+/// The job that writes an opening and returns f(z) in `value`. Refusals 1 to 6. The work buffer,
+/// 2 * 2^d words, is zero after success.
+pub fn write_opening(
+    lent: LentCode,
+    message: &[u32],
+    z: &[u32],
+    r: &[u32],
+    opening: &mut [u32],
+    work: &mut [u32],
+    value: &mut u32,
+) -> Answer {
+    try_write_opening(lent, message, z, r, opening, work, value).into()
+}
+
+fn try_write_opening(
+    lent: LentCode,
+    message: &[u32],
+    z: &[u32],
+    r: &[u32],
+    opening: &mut [u32],
+    work: &mut [u32],
+    value: &mut u32,
+) -> Result<(), Refusal> {
+    let (code, [message, z, r]) = lent.judge(
+        |sizes| {
+            vec![
+                (message.len(), sizes.message()),
+                (z.len(), sizes.depth),
+                (r.len(), sizes.depth),
+                (opening.len(), sizes.opening()),
+                (work.len(), 2 * sizes.message()),
+            ]
+        },
+        [message, z, r],
+    )?;
+    judge::write(opening, &opening_of(&code, &message, &z, &r));
+    work.fill(0);
+    *value = polynomial::value(&message, &z).word();
+    Ok(())
+}
+
+#[cfg(test)]
+mod tests {
+    use super::*;
+    use crate::code::tests::sample_code;
+    use crate::sample::{Rng, STYLES};
+    use crate::sizes::Sizes;
+
+    #[test]
+    fn block_zero_is_the_codeword_of_the_final_value() {
+        let mut rng = Rng::new(16);
+        for depth in 0..=7 {
+            for style in STYLES {
+                let rate = 2 + rng.below(15);
+                let code = sample_code(&mut rng, Sizes { depth, rate }, style);
+                let message = rng.residues(1 << depth, style);
+                let z = rng.residues(depth, style);
+                let r = rng.residues(depth, style);
+                let opening = opening_of(&code, &message, &z, &r);
+                assert_eq!(opening.len(), code.sizes.opening());
+                let v = opening[code.sizes.final_value()];
+                assert_eq!(v, polynomial::value_by_monomials(&message, &r));
+                if depth > 0 {
+                    let base = &opening[code.sizes.opening_block(0)];
+                    assert_eq!(base, codeword(&code, 0, &[v]));
+                }
+            }
+        }
+    }
+}

@@ -1,0 +1,105 @@
+//! The polynomial whose coefficients a message holds, and the evaluation job.
+
+use crate::answer::{Answer, Refusal};
+use crate::judge;
+use crate::residue::Residue;
+use crate::LITERAL_DEPTH;
+
+/// Bit `i` of `b`.
+pub fn bit(b: usize, i: usize) -> bool {
+    b >> i & 1 == 1
+}
+
+/// The point of corner b: X_i is bit i of b.
+pub fn corner(b: usize, depth: usize) -> Vec<Residue> {
+    let coordinate = |i| {
+        if bit(b, i) {
+            Residue::ONE
+        } else {
+            Residue::ZERO
+        }
+    };
+    (0..depth).map(coordinate).collect()
+}
+
+/// The value at a point, literally: word b times the product of those X_i whose bit in b is set.
+pub fn value_by_monomials(message: &[Residue], point: &[Residue]) -> Residue {
+    let monomial = |b: usize| -> Residue {
+        let set = (0..point.len()).filter(|&i| bit(b, i));
+        set.map(|i| point[i]).product()
+    };
+    let terms = message.iter().enumerate();
+    terms.map(|(b, &word)| word * monomial(b)).sum()
+}
+
+/// The value at a point by halves: the right half of a message is what multiplies the top variable.
+pub fn value_by_halves(message: &[Residue], point: &[Residue]) -> Residue {
+    let Some((&top, lower)) = point.split_last() else {
+        return message[0];
+    };
+    let (left, right) = message.split_at(message.len() / 2);
+    value_by_halves(left, lower) + top * value_by_halves(right, lower)
+}
+
+/// The value at a point.
+pub fn value(message: &[Residue], point: &[Residue]) -> Residue {
+    if point.len() <= LITERAL_DEPTH {
+        value_by_monomials(message, point)
+    } else {
+        value_by_halves(message, point)
+    }
+}
+
+/// The evaluation job. Refusals 1, 3, 4. `value` is written only when done.
+pub fn evaluate(depth: u32, message: &[u32], z: &[u32], value: &mut u32) -> Answer {
+    try_evaluate(depth, message, z, value).into()
+}
+
+fn try_evaluate(depth: u32, message: &[u32], z: &[u32], value: &mut u32) -> Result<(), Refusal> {
+    let depth = judge::depth(depth)?;
+    judge::lengths(&[(message.len(), 1 << depth), (z.len(), depth)])?;
+    let message = judge::words(message)?;
+    let z = judge::words(z)?;
+    *value = self::value(&message, &z).word();
+    Ok(())
+}
+
+#[cfg(test)]
+mod tests {
+    use super::*;
+    use crate::sample::{Rng, STYLES};
+
+    #[test]
+    fn both_forms_agree() {
+        let mut rng = Rng::new(4);
+        for depth in 0..=9 {
+            for style in STYLES {
+                for _ in 0..10 {
+                    let message = rng.residues(1 << depth, style);
+                    let point = rng.residues(depth, style);
+                    let literal = value_by_monomials(&message, &point);
+                    assert_eq!(value_by_halves(&message, &point), literal);
+                }
+            }
+        }
+    }
+
+    #[test]
+    fn refusals() {
+        let p = Residue::MODULUS;
+        let mut value = 77;
+        let mut number = |depth, message: &[u32], z: &[u32]| {
+            let answer = evaluate(depth, message, z, &mut value);
+            assert!(answer.number == 0 || value == 77);
+            answer.number
+        };
+        assert_eq!(number(17, &[p], &[]), 1);
+        assert_eq!(number(u32::MAX, &[1], &[]), 1);
+        assert_eq!(number(1, &[p], &[1]), 3);
+        assert_eq!(number(1, &[p, 1], &[]), 3);
+        assert_eq!(number(1, &[p, 1], &[1]), 4);
+        assert_eq!(number(1, &[1, 1], &[p]), 4);
+        assert_eq!(number(0, &[9], &[]), 0);
+        assert_eq!(value, 9);
+    }
+}

@@ -1,0 +1,114 @@
+//! Sizes that follow from a legal depth and rate.
+
+use std::ops::Range;
+
+/// Largest depth.
+pub const MAX_DEPTH: u32 = 16;
+/// Smallest and largest rate.
+pub const RATES: std::ops::RangeInclusive<u32> = 2..=16;
+/// Largest table, and largest message on the way back.
+pub const MAX_TABLE: usize = 65_536;
+/// Longest query list.
+pub const MAX_QUERIES: usize = 256;
+
+/// A legal depth and a legal rate.
+#[derive(Clone, Copy, PartialEq, Eq, Debug)]
+pub struct Sizes {
+    /// The depth d.
+    pub depth: usize,
+    /// The rate c, the length of the base block.
+    pub rate: usize,
+}
+
+impl Sizes {
+    /// Words of a message: 2^d.
+    pub fn message(&self) -> usize {
+        1 << self.depth
+    }
+
+    /// Words of a block of a level: n_i = c * 2^i.
+    pub fn block(&self, level: usize) -> usize {
+        self.rate << level
+    }
+
+    /// Words of a level-d block.
+    pub fn top_block(&self) -> usize {
+        self.block(self.depth)
+    }
+
+    /// Words of all levels of one diagonal: c(2^d - 1).
+    pub fn diagonals(&self) -> usize {
+        self.rate * ((1 << self.depth) - 1)
+    }
+
+    /// Where a level lies in a diagonal: from c(2^i - 1), n_i words.
+    pub fn diagonal(&self, level: usize) -> Range<usize> {
+        let start = self.rate * ((1 << level) - 1);
+        start..start + self.block(level)
+    }
+
+    /// Words of an opening: 3d + 1 + c(2^d - 1).
+    pub fn opening(&self) -> usize {
+        3 * self.depth + 1 + self.diagonals()
+    }
+
+    /// Where h_i lies in an opening, for i from d down to 1.
+    pub fn round(&self, i: usize) -> Range<usize> {
+        let start = 3 * (self.depth - i);
+        start..start + 3
+    }
+
+    /// Where the final value v lies in an opening.
+    pub fn final_value(&self) -> usize {
+        3 * self.depth
+    }
+
+    /// Where the block of a level below d lies in an opening: after v and all higher blocks.
+    pub fn opening_block(&self, level: usize) -> Range<usize> {
+        let higher: usize = (level + 1..self.depth).map(|k| self.block(k)).sum();
+        let start = self.final_value() + 1 + higher;
+        start..start + self.block(level)
+    }
+}
+
+#[cfg(test)]
+mod tests {
+    use super::*;
+
+    #[test]
+    fn largest_sizes_of_the_order() {
+        let sizes = Sizes {
+            depth: 16,
+            rate: 16,
+        };
+        assert_eq!(sizes.top_block(), 1_048_576);
+        assert_eq!(sizes.opening(), 1_048_609);
+    }
+
+    #[test]
+    fn levels_and_blocks_leave_no_gap() {
+        for depth in 0..=16 {
+            for rate in 2..=16 {
+                let sizes = Sizes { depth, rate };
+                let mut place = 0;
+                for level in 0..depth {
+                    assert_eq!(sizes.diagonal(level).start, place);
+                    place = sizes.diagonal(level).end;
+                }
+                assert_eq!(place, sizes.diagonals());
+                let mut place = 0;
+                for i in (1..=depth).rev() {
+                    assert_eq!(sizes.round(i).start, place);
+                    place = sizes.round(i).end;
+                }
+                assert_eq!(place, sizes.final_value());
+                place += 1;
+                for level in (0..depth).rev() {
+                    assert_eq!(sizes.opening_block(level).start, place);
+                    place = sizes.opening_block(level).end;
+                }
+                assert_eq!(place, sizes.opening());
+            }
+        }
+    }
+}

@@ -1,0 +1,179 @@
+//! A table of clearances to coefficients, and back.
+
+use crate::answer::{Answer, Refusal};
+use crate::clearance;
+use crate::judge;
+use crate::polynomial::{bit, corner, value_by_monomials};
+use crate::residue::Residue;
+use crate::LITERAL_DEPTH;
+
+/// The coefficients of the polynomial with these values at the corners, literally: coefficient b
+/// is the sum over the corners s within b, with a minus for every bit that s lacks.
+pub fn coefficients_by_corners(table: &[Residue]) -> Vec<Residue> {
+    let signed = |b: usize, s: usize| {
+        let missing = (b & !s).count_ones();
+        if missing % 2 == 1 {
+            -table[s]
+        } else {
+            table[s]
+        }
+    };
+    let coefficient = |b: usize| (0..=b).filter(|s| s & !b == 0).map(|s| signed(b, s)).sum();
+    (0..table.len()).map(coefficient).collect()
+}
+
+/// The same, variable by variable.
+pub fn coefficients_by_variables(table: &[Residue]) -> Vec<Residue> {
+    by_variables(table, |with, without| with - without)
+}
+
+/// The values at the corners, literally.
+pub fn corner_values_by_monomials(message: &[Residue]) -> Vec<Residue> {
+    let depth = message.len().trailing_zeros() as usize;
+    let value = |b| value_by_monomials(message, &corner(b, depth));
+    (0..message.len()).map(value).collect()
+}
+
+/// The same, variable by variable.
+pub fn corner_values_by_variables(message: &[Residue]) -> Vec<Residue> {
+    by_variables(message, |with, without| with + without)
+}
+
+/// For every variable, changes each word whose bit is set by the word that only lacks that bit.
+fn by_variables(words: &[Residue], step: impl Fn(Residue, Residue) -> Residue) -> Vec<Residue> {
+    let mut words = words.to_vec();
+    for i in 0..words.len().trailing_zeros() as usize {
+        for b in 0..words.len() {
+            if bit(b, i) {
+                words[b] = step(words[b], words[b ^ (1 << i)]);
+            }
+        }
+    }
+    words
+}
+
+/// The values at the corners.
+pub fn corner_values(message: &[Residue]) -> Vec<Residue> {
+    if message.len() <= 1 << LITERAL_DEPTH {
+        corner_values_by_monomials(message)
+    } else {
+        corner_values_by_variables(message)
+    }
+}
+
+/// Table to coefficients. Refusals 1, 3, 9.
+pub fn table_to_coefficients(clearances: &[i32], message: &mut [u32]) -> Answer {
+    try_table_to_coefficients(clearances, message).into()
+}
+
+fn try_table_to_coefficients(clearances: &[i32], message: &mut [u32]) -> Result<(), Refusal> {
+    let depth = judge::table_length(clearances.len())?;
+    judge::lengths(&[(message.len(), clearances.len())])?;
+    let residues = clearances.iter().map(|&x| clearance::to_residue(x));
+    let table = residues.collect::<Result<Vec<_>, _>>()?;
+    let coefficients = if depth <= LITERAL_DEPTH {
+        coefficients_by_corners(&table)
+    } else {
+        coefficients_by_variables(&table)
+    };
+    judge::write(message, &coefficients);
+    Ok(())
+}
+
+/// Coefficients to table. Refusals 1, 3, 4. The work buffer is zero after success.
+pub fn coefficients_to_table(message: &[u32], clearances: &mut [i32], work: &mut [u32]) -> Answer {
+    try_coefficients_to_table(message, clearances, work).into()
+}
+
+fn try_coefficients_to_table(
+    message: &[u32],
+    clearances: &mut [i32],
+    work: &mut [u32],
+) -> Result<(), Refusal> {
+    judge::table_length(message.len())?;
+    let due = message.len();
+    judge::lengths(&[(clearances.len(), due), (work.len(), due)])?;
+    let message = judge::words(message)?;
+    for (clearance, value) in clearances.iter_mut().zip(corner_values(&message)) {
+        *clearance = clearance::from_residue(value);
+    }
+    work.fill(0);
+    Ok(())
+}
+
+#[cfg(test)]
+mod tests {
+    use super::*;
+    use crate::sample::{Rng, STYLES};
+
+    #[test]
+    fn the_coefficients_have_the_table_as_corner_values() {
+        let mut rng = Rng::new(5);
+        for depth in 0..=8 {
+            for style in STYLES {
+                let table = rng.residues(1 << depth, style);
+                let coefficients = coefficients_by_corners(&table);
+                assert_eq!(coefficients_by_variables(&table), coefficients);
+                assert_eq!(corner_values_by_monomials(&coefficients), table);
+                assert_eq!(corner_values_by_variables(&coefficients), table);
+            }
+        }
+    }
+
+    #[test]
+    fn there_and_back() {
+        let mut rng = Rng::new(6);
+        for depth in [0, 1, 2, 5, 11, 16] {
+            let residues = rng.residues(1 << depth, STYLES[0]);
+            let table: Vec<i32> = residues
+                .iter()
+                .map(|&r| clearance::from_residue(r))
+                .collect();
+            let mut message = vec![7; table.len()];
+            assert_eq!(table_to_coefficients(&table, &mut message), Answer::DONE);
+            let mut back = vec![8; table.len()];
+            let mut work = vec![9; table.len()];
+            let answer = coefficients_to_table(&message, &mut back, &mut work);
+            assert_eq!(answer, Answer::DONE);
+            assert_eq!(back, table);
+            assert!(work.iter().all(|&word| word == 0));
+        }
+    }
+
+    #[test]
+    fn refusals_on_the_way_to_coefficients() {
+        let big = 1_073_741_824;
+        let number = |table: &[i32], result: usize| {
+            let mut message = vec![7; result];
+            let answer = table_to_coefficients(table, &mut message);
+            assert!(message.iter().all(|&word| word == 7));
+            answer.number
+        };
+        assert_eq!(number(&[], 0), 1);
+        assert_eq!(number(&[1, 2, big], 3), 1);
+        assert_eq!(number(&vec![0; 131_072], 131_072), 1);
+        assert_eq!(number(&vec![0; 65_537], 65_537), 1);
+        assert_eq!(number(&[1, big], 3), 3);
+        assert_eq!(number(&[1, big], 2), 9);
+        assert_eq!(number(&[1, -big], 2), 9);
+        assert_eq!(number(&[1, i32::MAX], 2), 9);
+        assert_eq!(number(&[1, i32::MIN], 2), 9);
+    }
+
+    #[test]
+    fn refusals_on_the_way_back() {
+        let p = Residue::MODULUS;
+        let number = |message: &[u32], result: usize, work: usize| {
+            let mut clearances = vec![7; result];
+            let mut work = vec![8; work];
+            let answer = coefficients_to_table(message, &mut clearances, &mut work);
+            assert!(clearances.iter().all(|&x| x == 7) && work.iter().all(|&x| x == 8));
+            answer.number
+        };
+        assert_eq!(number(&[], 0, 0), 1);
+        assert_eq!(number(&[p, 0, 0], 1, 1), 1);
+        assert_eq!(number(&[p, 0], 1, 2), 3);
+        assert_eq!(number(&[p, 0], 2, 1), 3);
+        assert_eq!(number(&[p, 0], 2, 2), 4);
+    }
+}

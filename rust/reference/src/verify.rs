@@ -1,0 +1,186 @@
+//! Verifying an opening.
+
+use crate::answer::{Answer, Refusal};
+use crate::code::{Code, LentCode};
+use crate::fold::line;
+use crate::judge;
+use crate::residue::Residue;
+use crate::sumcheck::{eq, quadratic_at};
+
+/// The verdict: which check failed first and where.
+#[derive(Clone, Copy, PartialEq, Eq, Debug)]
+pub enum Verdict {
+    /// Every check holds.
+    Accepted,
+    /// The sum check of round i.
+    Sum(usize),
+    /// The final check.
+    Final,
+    /// The base check at place j.
+    Base(usize),
+    /// The fold check: the query's position in the list, and the lower level of the step.
+    Fold(usize, usize),
+}
+
+impl From<Verdict> for Answer {
+    fn from(verdict: Verdict) -> Answer {
+        let (number, first, second) = match verdict {
+            Verdict::Accepted => (0, 0, 0),
+            Verdict::Sum(i) => (20, i, 0),
+            Verdict::Final => (21, 0, 0),
+            Verdict::Base(j) => (22, j, 0),
+            Verdict::Fold(position, level) => (23, position, level),
+        };
+        Answer {
+            number,
+            first: first as u32,
+            second: second as u32,
+        }
+    }
+}
+
+/// A well-formed claim: everything a verifier is lent besides the code.
+#[derive(Clone, Debug)]
+pub struct Claim {
+    /// The level-d block, which lies in the commitment buffer.
+    pub block: Vec<Residue>,
+    /// The claimed point.
+    pub z: Vec<Residue>,
+    /// The claimed value.
+    pub y: Residue,
+    /// The challenges.
+    pub r: Vec<Residue>,
+    /// The query places.
+    pub queries: Vec<usize>,
+    /// The opening.
+    pub opening: Vec<Residue>,
+}
+
+impl Claim {
+    /// The round h_i.
+    pub fn round(&self, code: &Code, i: usize) -> [Residue; 3] {
+        let words = &self.opening[code.sizes.round(i)];
+        [words[0], words[1], words[2]]
+    }
+
+    /// The final value v.
+    pub fn final_value(&self, code: &Code) -> Residue {
+        self.opening[code.sizes.final_value()]
+    }
+
+    /// The block of a level: the commitment at level d, a part of the opening below.
+    pub fn level_block(&self, code: &Code, level: usize) -> &[Residue] {
+        if level == code.sizes.depth {
+            &self.block
+        } else {
+            &self.opening[code.sizes.opening_block(level)]
+        }
+    }
+
+    /// The checks in the order's order; the first failure is the verdict.
+    pub fn verdict(&self, code: &Code) -> Verdict {
+        let checks = [sums_and_final, base, folds];
+        let failed = checks.iter().find_map(|check| check(self, code));
+        failed.unwrap_or(Verdict::Accepted)
+    }
+}
+
+/// Checks 1 and 2: each round sums to the claim before it, and v * eq(z, r) is the last claim.
+fn sums_and_final(claim: &Claim, code: &Code) -> Option<Verdict> {
+    let mut claimed = claim.y;
+    for i in (1..=code.sizes.depth).rev() {
+        let h = claim.round(code, i);
+        if h[0] + h[1] != claimed {
+            return Some(Verdict::Sum(i));
+        }
+        claimed = quadratic_at(h, claim.r[i - 1]);
+    }
+    let last = claim.final_value(code) * eq(&claim.z, &claim.r);
+    (last != claimed).then_some(Verdict::Final)
+}
+
+/// Check 3: block 0 holds v*g[j].
+fn base(claim: &Claim, code: &Code) -> Option<Verdict> {
+    let v = claim.final_value(code);
+    let block = claim.level_block(code, 0);
+    let wrong = (0..code.sizes.rate).find(|&j| block[j] != v * code.g[j]);
+    wrong.map(Verdict::Base)
+}
+
+/// Check 4, query by query as listed.
+fn folds(claim: &Claim, code: &Code) -> Option<Verdict> {
+    let queries = claim.queries.iter().enumerate();
+    let failed = |(position, &place)| {
+        let level = first_wrong_fold(claim, code, place)?;
+        Some(Verdict::Fold(position, level))
+    };
+    queries.into_iter().find_map(failed)
+}
+
+/// The first level, from d-1 down, at which the fold on a query's path is wrong.
+fn first_wrong_fold(claim: &Claim, code: &Code, place: usize) -> Option<usize> {
+    let mut u = place;
+    for i in (0..code.sizes.depth).rev() {
+        let upper = claim.level_block(code, i + 1);
+        let (t, t2) = (code.t(i), code.t2(i));
+        let w2 = upper[u + code.sizes.block(i)];
+        let fold = line(t[u], upper[u], t2[u], w2, claim.r[i]);
+        if fold != claim.level_block(code, i)[u] {
+            return Some(i);
+        }
+        // At u = n_(i-1) already the place lies in the second half.
+        if i > 0 && u >= code.sizes.block(i - 1) {
+            u -= code.sizes.block(i - 1);
+        }
+    }
+    None
+}
+
+/// The verifying job. Refusals 1 to 7, then the verdict.
+pub fn verify_opening(
+    lent: LentCode,
+    block: &[u32],
+    z: &[u32],
+    y: u32,
+    r: &[u32],
+    queries: &[u32],
+    opening: &[u32],
+) -> Answer {
+    match judge_claim(lent, block, z, y, r, queries, opening) {
+        Err(refusal) => refusal.into(),
+        Ok((code, claim)) => claim.verdict(&code).into(),
+    }
+}
+
+/// Refusals 1 to 7 of the verifying job.
+pub fn judge_claim(
+    lent: LentCode,
+    block: &[u32],
+    z: &[u32],
+    y: u32,
+    r: &[u32],
+    queries: &[u32],
+    opening: &[u32],
+) -> Result<(Code, Claim), Refusal> {
+    let (code, [block, z, y, r, opening]) = lent.judge(
+        |sizes| {
+            vec![
+                (block.len(), sizes.top_block()),
+                (z.len(), sizes.depth),
+                (r.len(), sizes.depth),
+                (opening.len(), sizes.opening()),
+            ]
+        },
+        [block, z, &[y], r, opening],
+    )?;
+    let queries = judge::queries(queries, &code.sizes)?;
+    let claim = Claim {
+        block,
+        z,
+        y: y[0],
+        r,
+        queries,
+        opening,
+    };
+    Ok((code, claim))
+}

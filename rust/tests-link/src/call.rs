@@ -1,0 +1,237 @@
+//! One call of one job: everything it is lent.
+
+use crate::buffer::Buffer;
+use std::collections::BTreeMap;
+use std::fmt;
+use tvarchula_reference::LentCode;
+
+/// The jobs.
+#[derive(Clone, Copy, PartialEq, Eq, PartialOrd, Ord, Debug)]
+pub enum Job {
+    /// Reading a word as a clearance.
+    ReadClearance,
+    /// Clearance table to coefficients.
+    TableToCoefficients,
+    /// Coefficients to clearance table.
+    CoefficientsToTable,
+    /// Evaluation.
+    Evaluate,
+    /// Encoding.
+    Encode,
+    /// Decoding.
+    Decode,
+    /// Folding.
+    Fold,
+    /// Writing an opening.
+    WriteOpening,
+    /// Verifying an opening.
+    VerifyOpening,
+}
+
+impl Job {
+    /// The numbers this job can answer.
+    pub fn numbers(self) -> &'static [u32] {
+        match self {
+            Job::ReadClearance => &[0, 4],
+            Job::TableToCoefficients => &[0, 1, 3, 9],
+            Job::CoefficientsToTable | Job::Evaluate => &[0, 1, 3, 4],
+            Job::Encode | Job::WriteOpening => &[0, 1, 2, 3, 4, 5, 6],
+            Job::Decode => &[0, 1, 2, 3, 4, 5, 6, 8],
+            Job::Fold => &[0, 1, 2, 3, 4, 6],
+            Job::VerifyOpening => &[0, 1, 2, 3, 4, 5, 6, 7, 20, 21, 22, 23],
+        }
+    }
+}
+
+/// What a job reads, as words.
+#[derive(Clone, Copy, PartialEq, Eq, PartialOrd, Ord, Debug)]
+pub enum Input {
+    /// The single word of a reading.
+    Word,
+    /// Base row.
+    G,
+    /// T, for folding only its one level.
+    T,
+    /// T'.
+    T2,
+    /// Message.
+    Message,
+    /// Block.
+    Block,
+    /// Claimed point.
+    Z,
+    /// Claimed value, a single word.
+    Y,
+    /// Challenges.
+    R,
+    /// The single challenge of folding.
+    Challenge,
+    /// Query places.
+    Queries,
+    /// Opening.
+    Opening,
+}
+
+impl Input {
+    /// A single value has no length that could be wrong.
+    pub fn is_single(self) -> bool {
+        matches!(self, Input::Word | Input::Y | Input::Challenge)
+    }
+}
+
+/// One call: what the job reads and what it writes.
+#[derive(Clone, PartialEq, Eq, Debug)]
+pub struct Call {
+    /// The job.
+    pub job: Job,
+    /// How the call was made.
+    pub note: String,
+    /// What is read.
+    pub lent: Lent,
+    /// What is written.
+    pub out: Out,
+}
+
+/// What a call reads. What the job is not lent is absent.
+#[derive(Clone, PartialEq, Eq, Debug, Default)]
+pub struct Lent {
+    /// Depth, for folding the upper level.
+    pub depth: Option<u32>,
+    /// Rate.
+    pub rate: Option<u32>,
+    /// Words; a single value is one word.
+    pub words: BTreeMap<Input, Vec<u32>>,
+    /// Clearances.
+    pub table: Option<Vec<i32>>,
+}
+
+impl Lent {
+    /// The words of an input that the job is lent.
+    pub fn words(&self, input: Input) -> &[u32] {
+        &self.words[&input]
+    }
+
+    /// The words of an input, to change.
+    pub fn words_mut(&mut self, input: Input) -> &mut Vec<u32> {
+        self.words.get_mut(&input).expect("an input of this job")
+    }
+
+    /// A single value.
+    pub fn single(&self, input: Input) -> u32 {
+        self.words(input)[0]
+    }
+
+    /// Depth or upper level.
+    pub fn depth(&self) -> u32 {
+        self.depth.expect("a job with a depth")
+    }
+
+    /// Rate.
+    pub fn rate(&self) -> u32 {
+        self.rate.expect("a job with a rate")
+    }
+
+    /// The code.
+    pub fn code(&self) -> LentCode<'_> {
+        LentCode {
+            depth: self.depth(),
+            rate: self.rate(),
+            g: self.words(Input::G),
+            t: self.words(Input::T),
+            t2: self.words(Input::T2),
+        }
+    }
+}
+
+/// What a call may write. What the job is not lent is absent.
+#[derive(Clone, PartialEq, Eq, Debug, Default)]
+pub struct Out {
+    /// The result.
+    pub result: Option<Buffer<u32>>,
+    /// The result, if it is a table.
+    pub table: Option<Buffer<i32>>,
+    /// The work buffer.
+    pub work: Option<Buffer<u32>>,
+    /// The single result.
+    pub value: u32,
+}
+
+/// The lent parts of what a call may write, empty where absent.
+#[derive(Debug)]
+pub struct Parts<'a> {
+    /// The result.
+    pub result: &'a mut [u32],
+    /// The result, if it is a table.
+    pub table: &'a mut [i32],
+    /// The work buffer.
+    pub work: &'a mut [u32],
+    /// The single result.
+    pub value: &'a mut u32,
+}
+
+impl Out {
+    /// The lent parts.
+    pub fn parts(&mut self) -> Parts<'_> {
+        Parts {
+            result: self.result.as_mut().map_or(&mut [], Buffer::lent_mut),
+            table: self.table.as_mut().map_or(&mut [], Buffer::lent_mut),
+            work: self.work.as_mut().map_or(&mut [], Buffer::lent_mut),
+            value: &mut self.value,
+        }
+    }
+}
+
+impl Call {
+    /// A call of a job that is lent nothing yet.
+    pub fn new(job: Job) -> Call {
+        Call {
+            job,
+            note: String::new(),
+            lent: Lent::default(),
+            out: Out::default(),
+        }
+    }
+
+    /// Adds to the note.
+    pub fn add_note(&mut self, note: &str) {
+        if !self.note.is_empty() {
+            self.note.push_str(", ");
+        }
+        self.note.push_str(note);
+    }
+}
+
+impl fmt::Display for Call {
+    fn fmt(&self, f: &mut fmt::Formatter) -> fmt::Result {
+        write!(f, "{:?} ({})", self.job, self.note)?;
+        for (name, number) in [("depth", self.lent.depth), ("rate", self.lent.rate)] {
+            if let Some(number) = number {
+                write!(f, "\n  {name} {number}")?;
+            }
+        }
+        for (input, words) in &self.lent.words {
+            write!(f, "\n  {input:?}: {}", shown(words))?;
+        }
+        if let Some(table) = &self.lent.table {
+            write!(f, "\n  table: {}", shown(table))?;
+        }
+        let result = self.out.result.as_ref().map(|b| b.lent().len());
+        let table = self.out.table.as_ref().map(|b| b.lent().len());
+        let work = self.out.work.as_ref().map(|b| b.lent().len());
+        for (name, length) in [("result", result.or(table)), ("work", work)] {
+            if let Some(length) = length {
+                write!(f, "\n  {name}: {length} words")?;
+            }
+        }
+        Ok(())
+    }
+}
+
+/// The length of a slice, and its words when they are few.
+fn shown<T: fmt::Debug>(words: &[T]) -> String {
+    if words.len() <= 32 {
+        format!("{} words {words:?}", words.len())
+    } else {
+        format!("{} words {:?}...", words.len(), &words[..8])
+    }
+}

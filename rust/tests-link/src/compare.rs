@@ -1,0 +1,116 @@
+//! Runs one call on two implementations and compares everything.
+
+use crate::buffer::Buffer;
+use crate::call::{Call, Job};
+use crate::tally::Tally;
+use std::fmt;
+use tvarchula_reference::Answer;
+
+/// An implementation of the jobs of one group.
+pub type Runner = fn(&mut Call) -> Answer;
+
+/// Two implementations, and the count of calls on which they agree.
+#[derive(Clone, Debug)]
+pub struct Comparison {
+    left: Runner,
+    right: Runner,
+    /// The calls compared so far.
+    pub tally: Tally,
+}
+
+/// A call on which the two implementations differ, or both do what no job may do.
+#[derive(Clone, Debug)]
+pub struct Difference {
+    /// The call as lent.
+    pub call: Box<Call>,
+    /// What differs.
+    pub what: String,
+}
+
+impl fmt::Display for Difference {
+    fn fmt(&self, f: &mut fmt::Formatter) -> fmt::Result {
+        write!(f, "{}\n  {}", self.call, self.what)
+    }
+}
+
+impl Comparison {
+    /// A comparison of two implementations.
+    pub fn new(left: Runner, right: Runner) -> Comparison {
+        Comparison {
+            left,
+            right,
+            tally: Tally::default(),
+        }
+    }
+
+    /// Runs a call on both. The call itself is not changed.
+    pub fn check(&mut self, call: &Call) -> Result<Answer, Difference> {
+        let (mut left, mut right) = (call.clone(), call.clone());
+        let answers = [(self.left)(&mut left), (self.right)(&mut right)];
+        let fault = difference(answers, &left, &right)
+            .or_else(|| fault(call, answers[0], &left))
+            .map(|what| Difference {
+                call: Box::new(call.clone()),
+                what,
+            });
+        if let Some(fault) = fault {
+            return Err(fault);
+        }
+        self.tally.count(call.job, answers[0]);
+        Ok(answers[0])
+    }
+}
+
+/// Where two calls differ after they ran.
+fn difference(answers: [Answer; 2], left: &Call, right: &Call) -> Option<String> {
+    if answers[0] != answers[1] {
+        return Some(format!("answers {} and {}", answers[0], answers[1]));
+    }
+    if left.lent != right.lent {
+        return Some("a slice that is only read was changed".to_string());
+    }
+    let (a, b) = (&left.out, &right.out);
+    if a.value != b.value {
+        return Some(format!("values {} and {}", a.value, b.value));
+    }
+    buffers("result", &a.result, &b.result)
+        .or_else(|| buffers("table", &a.table, &b.table))
+        .or_else(|| buffers("work", &a.work, &b.work))
+}
+
+fn buffers<T>(name: &str, a: &Option<Buffer<T>>, b: &Option<Buffer<T>>) -> Option<String>
+where
+    T: Copy + PartialEq,
+{
+    let (a, b) = (a.as_ref()?, b.as_ref()?);
+    let place = a.first_difference(b)?;
+    let length = a.lent().len();
+    Some(format!("{name} differs first at {place} of {length}"))
+}
+
+/// What no job may do, whatever the two sides agree on: a number that is not the job's, a place
+/// where none is named, a changed input or result after a refusal, a wrong work buffer.
+fn fault(before: &Call, answer: Answer, after: &Call) -> Option<String> {
+    let number = answer.number;
+    let places = match (before.job, number) {
+        (Job::ReadClearance, 0) | (_, 23) => true,
+        (_, 20 | 22) => answer.second == 0,
+        _ => answer.first == 0 && answer.second == 0,
+    };
+    let results = before.out.result == after.out.result
+        && before.out.table == after.out.table
+        && before.out.value == after.out.value;
+    let work = match &after.out.work {
+        Some(work) if number == 0 || number == 8 => work.lent().iter().all(|&word| word == 0),
+        _ => before.out.work == after.out.work,
+    };
+    let rules = [
+        (before.job.numbers().contains(&number), "a foreign number"),
+        (places, "a place where none is named"),
+        (before.lent == after.lent, "a changed input"),
+        (number == 0 || results, "a changed result after a refusal"),
+        (work, "a wrong work buffer"),
+    ];
+    let broken = rules.iter().find(|(holds, _)| !holds)?;
+    Some(format!("both answer {answer}, but: {}", broken.1))
+}

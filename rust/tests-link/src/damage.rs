@@ -1,0 +1,244 @@
+//! Damages: each spoils a call in one way, legal words moved by one included.
+
+use crate::call::{Call, Input};
+use tvarchula_reference::sample::Rng;
+use tvarchula_reference::Residue;
+
+const P: u32 = Residue::MODULUS;
+
+/// A lent slice whose length can be wrong.
+#[derive(Clone, Copy, PartialEq, Eq, Debug)]
+pub enum Slice {
+    /// Words that are read.
+    Read(Input),
+    /// Clearances that are read.
+    Table,
+    /// The result.
+    Result,
+    /// The table that is written.
+    TableResult,
+    /// The work buffer.
+    Work,
+}
+
+/// A wrong length.
+#[derive(Clone, Copy, PartialEq, Eq, Debug)]
+pub enum Length {
+    /// One word too many.
+    Longer,
+    /// One word too few.
+    Shorter,
+    /// No word.
+    Empty,
+}
+
+/// A place in a slice.
+#[derive(Clone, Copy, PartialEq, Eq, Debug)]
+pub enum Place {
+    /// The first.
+    First,
+    /// The last.
+    Last,
+    /// Any.
+    Any,
+}
+
+/// One way to spoil a call.
+#[derive(Clone, Copy, PartialEq, Eq, Debug)]
+pub enum Damage {
+    /// Another depth or upper level.
+    Depth(u32),
+    /// Another rate.
+    Rate(u32),
+    /// A slice of a wrong length.
+    Length(Slice, Length),
+    /// A word, or a single value, of p or more.
+    Word(Input, u32, Place),
+    /// A word moved by one, still a residue.
+    Moved(Input, Place),
+    /// A zero in the base row.
+    ZeroInRow(Place),
+    /// T' like T in a place.
+    EqualPair(Place),
+    /// A query list of this length.
+    QueryCount(usize),
+    /// A query that is this much above the largest legal place.
+    QueryAbove(u32, Place),
+    /// A query that is the largest word.
+    QueryMax(Place),
+    /// The first query once more, at the end of the list: legal.
+    QueryRepeated,
+    /// Another clearance.
+    Clearance(i32, Place),
+}
+
+const PLACES: [Place; 3] = [Place::First, Place::Last, Place::Any];
+
+/// Every damage that a call can take.
+pub fn all(call: &Call) -> Vec<Damage> {
+    let lent = &call.lent;
+    let mut damages = Vec::new();
+    if let Some(depth) = lent.depth {
+        let others = [17, 18, 31, 32, 33, 64, u32::MAX, 0, depth + 1];
+        let lower = depth.checked_sub(1);
+        damages.extend(others.into_iter().chain(lower).map(Damage::Depth));
+    }
+    if let Some(rate) = lent.rate {
+        let others = [0, 1, 17, 18, u32::MAX, rate + 1, rate - 1];
+        damages.extend(others.map(Damage::Rate));
+    }
+    for slice in slices(call) {
+        let lengths = [Length::Longer, Length::Shorter, Length::Empty];
+        damages.extend(lengths.map(|length| Damage::Length(slice, length)));
+    }
+    for &input in lent.words.keys().filter(|&&input| input != Input::Queries) {
+        for place in PLACES {
+            damages.push(Damage::Word(input, P, place));
+            damages.push(Damage::Moved(input, place));
+        }
+        let words = [P + 1, 2 * P, u32::MAX];
+        damages.extend(words.map(|word| Damage::Word(input, word, Place::Any)));
+    }
+    if lent.words.contains_key(&Input::G) {
+        damages.extend(PLACES.map(Damage::ZeroInRow));
+    }
+    if lent.words.contains_key(&Input::T) {
+        damages.extend(PLACES.map(Damage::EqualPair));
+    }
+    if lent.words.contains_key(&Input::Queries) {
+        damages.extend([0, 1, 256, 257, 300].map(Damage::QueryCount));
+        damages.extend(PLACES.map(|place| Damage::QueryAbove(0, place)));
+        damages.extend(PLACES.map(|place| Damage::QueryAbove(1, place)));
+        damages.extend(PLACES.map(Damage::QueryMax));
+        damages.push(Damage::QueryRepeated);
+    }
+    if lent.table.is_some() {
+        let edge = 1_073_741_823;
+        let words = [edge, -edge, edge + 1, -edge - 1, i32::MAX, i32::MIN];
+        for word in words {
+            damages.extend(PLACES.map(|place| Damage::Clearance(word, place)));
+        }
+    }
+    damages
+}
+
+/// The slices whose length is judged. The query list's length is no slice's length.
+fn slices(call: &Call) -> Vec<Slice> {
+    let inputs = call.lent.words.keys().copied();
+    let judged = inputs.filter(|&input| !input.is_single() && input != Input::Queries);
+    let mut slices: Vec<Slice> = judged.map(Slice::Read).collect();
+    let others = [
+        (call.lent.table.is_some(), Slice::Table),
+        (call.out.result.is_some(), Slice::Result),
+        (call.out.table.is_some(), Slice::TableResult),
+        (call.out.work.is_some(), Slice::Work),
+    ];
+    slices.extend(
+        others
+            .iter()
+            .filter(|(lent, _)| *lent)
+            .map(|(_, slice)| slice),
+    );
+    slices
+}
+
+/// The next residue after a word.
+pub fn moved(word: u32) -> u32 {
+    (word % P + 1) % P
+}
+
+/// The residue before a word.
+pub fn moved_back(word: u32) -> u32 {
+    (word % P + P - 1) % P
+}
+
+/// Spoils a call. A damage that finds no word to change does nothing.
+pub fn apply(call: &mut Call, damage: Damage, rng: &mut Rng) {
+    call.add_note(&format!("{damage:?}"));
+    let legal = legal_places(call);
+    let lent = &mut call.lent;
+    match damage {
+        Damage::Depth(depth) => lent.depth = Some(depth),
+        Damage::Rate(rate) => lent.rate = Some(rate),
+        Damage::Length(slice, length) => resize(call, slice, length),
+        Damage::Word(input, word, place) => change(lent.words_mut(input), place, rng, |_| word),
+        Damage::Moved(input, place) => change(lent.words_mut(input), place, rng, moved),
+        Damage::ZeroInRow(place) => change(lent.words_mut(Input::G), place, rng, |_| 0),
+        Damage::EqualPair(place) => {
+            let t = lent.words(Input::T).to_vec();
+            let both = t.len().min(lent.words(Input::T2).len());
+            if both > 0 {
+                let j = index(both, place, rng);
+                lent.words_mut(Input::T2)[j] = t[j];
+            }
+        }
+        Damage::QueryCount(count) => lent.words_mut(Input::Queries).resize(count, 0),
+        Damage::QueryAbove(above, place) => {
+            change(lent.words_mut(Input::Queries), place, rng, |_| {
+                legal + above
+            });
+        }
+        Damage::QueryMax(place) => {
+            change(lent.words_mut(Input::Queries), place, rng, |_| u32::MAX);
+        }
+        Damage::QueryRepeated => {
+            let queries = lent.words_mut(Input::Queries);
+            queries.extend(queries.first().copied());
+        }
+        Damage::Clearance(word, place) => {
+            change(lent.table.as_mut().expect("a table"), place, rng, |_| word);
+        }
+    }
+}
+
+/// How many places are legal for a query of this call, as its depth and rate now are.
+fn legal_places(call: &Call) -> u32 {
+    let (depth, rate) = (call.lent.depth.unwrap_or(0), call.lent.rate.unwrap_or(0));
+    match depth {
+        1..=16 if rate <= 16 => rate << (depth - 1),
+        _ => 0,
+    }
+}
+
+fn resize(call: &mut Call, slice: Slice, length: Length) {
+    fn resize_words<T: Default>(words: &mut Vec<T>, length: Length) {
+        match length {
+            Length::Longer => words.push(T::default()),
+            Length::Shorter => drop(words.pop()),
+            Length::Empty => words.clear(),
+        }
+    }
+    fn resize_buffer<T: Copy + PartialEq>(
+        buffer: &mut Option<crate::buffer::Buffer<T>>,
+        length: Length,
+    ) {
+        let buffer = buffer.as_mut().expect("a buffer");
+        match length {
+            Length::Longer => buffer.lengthen(),
+            Length::Shorter => buffer.shorten(),
+            Length::Empty => buffer.empty(),
+        }
+    }
+    match slice {
+        Slice::Read(input) => resize_words(call.lent.words_mut(input), length),
+        Slice::Table => resize_words(call.lent.table.as_mut().expect("a table"), length),
+        Slice::Result => resize_buffer(&mut call.out.result, length),
+        Slice::TableResult => resize_buffer(&mut call.out.table, length),
+        Slice::Work => resize_buffer(&mut call.out.work, length),
+    }
+}
+
+fn index(length: usize, place: Place, rng: &mut Rng) -> usize {
+    match place {
+        Place::First => 0,
+        Place::Last => length - 1,
+        Place::Any => rng.below(length),
+    }
+}
+
+fn change<T: Copy>(words: &mut [T], place: Place, rng: &mut Rng, to: impl Fn(T) -> T) {
+    if !words.is_empty() {
+        let j = index(words.len(), place, rng);
+        words[j] = to(words[j]);
+    }
+}

@@ -1,0 +1,223 @@
+//! Well-formed calls: every slice of its exact length, every word a residue, nothing to refuse.
+
+use crate::buffer::Buffer;
+use crate::call::{Call, Input, Job};
+use crate::run;
+use tvarchula_reference::clearance::from_residue;
+use tvarchula_reference::sample::{Rng, Style, STYLES};
+use tvarchula_reference::sizes::Sizes;
+use tvarchula_reference::{Answer, CodeJobs, Reference};
+
+/// Sizes and styles of a call.
+#[derive(Clone, Copy, Debug)]
+pub struct Shape {
+    /// Depth (for folding the upper level, at least 1) and rate, legal or not.
+    pub sizes: Sizes,
+    /// Style of base row and diagonals.
+    pub code: Style,
+    /// Style of everything else.
+    pub words: Style,
+}
+
+impl Shape {
+    /// A shape with any styles.
+    pub fn any(depth: usize, rate: usize, rng: &mut Rng) -> Shape {
+        Shape {
+            sizes: Sizes { depth, rate },
+            code: rng.pick(&STYLES),
+            words: rng.pick(&STYLES),
+        }
+    }
+
+    /// A shape with any residues, where coincidences are unlikely.
+    pub fn random(depth: usize, rate: usize) -> Shape {
+        Shape {
+            sizes: Sizes { depth, rate },
+            code: Style::Random,
+            words: Style::Random,
+        }
+    }
+}
+
+/// A call with nothing to refuse: a block to decode is a codeword, an opening to verify is honest.
+pub fn call(job: Job, shape: Shape, rng: &mut Rng) -> Call {
+    let mut call = formed(job, shape, rng);
+    match job {
+        Job::Decode => make_codeword(&mut call, shape, rng),
+        Job::VerifyOpening => make_honest(&mut call, shape, rng),
+        // Half the folded blocks are codewords, the others any block.
+        Job::Fold if rng.one_in(2) => make_codeword_to_fold(&mut call, shape, rng),
+        _ => (),
+    }
+    call
+}
+
+/// A call whose slices have the lengths that its depth and rate ask for, legal or not; a block or
+/// an opening holds any residues.
+pub fn formed(job: Job, shape: Shape, rng: &mut Rng) -> Call {
+    let Shape { sizes, words, .. } = shape;
+    let depth = sizes.depth;
+    let mut call = Call::new(job);
+    call.add_note(&format!("{:?} code, {words:?} words", shape.code));
+    call.out.value = rng.word();
+    let [message, block, opening] = [sizes.message(), sizes.top_block(), sizes.opening()];
+    let (mut inputs, mut result, mut work) = (Vec::new(), None, None);
+    match job {
+        Job::ReadClearance => inputs.push((Input::Word, 1)),
+        Job::TableToCoefficients => {
+            let table = rng.residues(message, words);
+            call.lent.table = Some(table.into_iter().map(from_residue).collect());
+            result = Some(message);
+        }
+        Job::CoefficientsToTable => {
+            inputs.push((Input::Message, message));
+            call.out.table = Some(Buffer::garbage(message, rng, |word| word as i32));
+            work = Some(message);
+        }
+        Job::Evaluate => {
+            inputs.extend([(Input::Message, message), (Input::Z, depth)]);
+        }
+        Job::Encode => {
+            inputs.push((Input::Message, message));
+            result = Some(block);
+        }
+        Job::Decode => {
+            inputs.push((Input::Block, block));
+            (result, work) = (Some(message), Some(block));
+        }
+        Job::Fold => {
+            inputs.extend([(Input::Block, block), (Input::Challenge, 1)]);
+            result = Some(sizes.block(depth - 1));
+        }
+        Job::WriteOpening => {
+            inputs.extend([
+                (Input::Message, message),
+                (Input::Z, depth),
+                (Input::R, depth),
+            ]);
+            (result, work) = (Some(opening), Some(2 * message));
+        }
+        Job::VerifyOpening => inputs.extend([
+            (Input::Block, block),
+            (Input::Z, depth),
+            (Input::Y, 1),
+            (Input::R, depth),
+            (Input::Opening, opening),
+        ]),
+    }
+    for (input, length) in inputs {
+        call.lent.words.insert(input, rng.words(length, words));
+    }
+    call.out.result = result.map(|length| Buffer::garbage(length, rng, |word| word));
+    call.out.work = work.map(|length| Buffer::garbage(length, rng, |word| word));
+    lend_code(&mut call, shape, rng);
+    call
+}
+
+/// Lends depth, rate, base row, diagonals and queries to the jobs that have them.
+fn lend_code(call: &mut Call, shape: Shape, rng: &mut Rng) {
+    let sizes = shape.sizes;
+    let lent = &mut call.lent;
+    if call.job >= Job::Evaluate {
+        lent.depth = Some(sizes.depth as u32);
+    }
+    if call.job >= Job::Encode {
+        lent.rate = Some(sizes.rate as u32);
+        let [g, mut t, mut t2] = rng.code(&sizes, shape.code);
+        if call.job == Job::Fold {
+            t = t.split_off(sizes.diagonal(sizes.depth - 1).start);
+            t2 = t2.split_off(sizes.diagonal(sizes.depth - 1).start);
+        } else {
+            lent.words.insert(Input::G, g);
+        }
+        lent.words.insert(Input::T, t);
+        lent.words.insert(Input::T2, t2);
+    }
+    if call.job == Job::VerifyOpening {
+        lent.words.insert(Input::Queries, queries(&sizes, rng));
+    }
+}
+
+/// A legal query list: mostly short, with the ends and the starts of the second halves among it.
+pub fn queries(sizes: &Sizes, rng: &mut Rng) -> Vec<u32> {
+    if sizes.depth == 0 || sizes.rate == 0 {
+        return Vec::new();
+    }
+    let count = match rng.below(20) {
+        0 => 256,
+        1 => 1 + rng.below(256),
+        2..=7 => 1,
+        _ => 1 + rng.below(8),
+    };
+    let below = sizes.block(sizes.depth - 1);
+    let place = |_| match rng.below(6) {
+        0 => 0,
+        1 => below - 1,
+        2 => sizes.block(rng.below(sizes.depth)) % below,
+        3 => (sizes.block(rng.below(sizes.depth)) - 1) % below,
+        _ => rng.below(below),
+    };
+    (0..count).map(place).map(|place| place as u32).collect()
+}
+
+fn make_codeword(call: &mut Call, shape: Shape, rng: &mut Rng) {
+    let message = rng.words(shape.sizes.message(), shape.words);
+    let mut block = call.lent.words(Input::Block).to_vec();
+    let answer = Reference::encode(call.lent.code(), &message, &mut block);
+    assert_eq!(answer, Answer::DONE);
+    call.lent.words.insert(Input::Block, block);
+}
+
+/// Lends a codeword whose top level is the one level that folding is lent.
+fn make_codeword_to_fold(call: &mut Call, shape: Shape, rng: &mut Rng) {
+    let mut encoding = formed(Job::Encode, shape, rng);
+    for input in [Input::T, Input::T2] {
+        let level = shape.sizes.diagonal(shape.sizes.depth - 1);
+        let words = encoding.lent.words(input)[level].to_vec();
+        call.lent.words.insert(input, words);
+    }
+    let parts = encoding.out.parts();
+    let message = encoding.lent.words(Input::Message);
+    let answer = Reference::encode(encoding.lent.code(), message, parts.result);
+    assert_eq!(answer, Answer::DONE);
+    call.lent.words.insert(Input::Block, parts.result.to_vec());
+    call.add_note("a codeword");
+}
+
+/// Makes a claim honest: the codeword, the opening and the value of any message.
+fn make_honest(call: &mut Call, shape: Shape, rng: &mut Rng) {
+    let mut writing = formed(Job::WriteOpening, shape, rng);
+    for input in [Input::G, Input::T, Input::T2, Input::Z, Input::R] {
+        let words = call.lent.words(input).to_vec();
+        writing.lent.words.insert(input, words);
+    }
+    let honest = honest(&writing, shape, rng);
+    for input in [Input::Block, Input::Opening, Input::Y] {
+        let words = honest.lent.words(input).to_vec();
+        call.lent.words.insert(input, words);
+    }
+    call.add_note("honest");
+}
+
+/// The claim that a call which writes an opening leads to, with any legal queries.
+pub fn honest(writing: &Call, shape: Shape, rng: &mut Rng) -> Call {
+    let mut writing = writing.clone();
+    let mut call = Call::new(Job::VerifyOpening);
+    call.lent = writing.lent.clone();
+    let message = call.lent.words.remove(&Input::Message).expect("a message");
+    let mut block = vec![0; shape.sizes.top_block()];
+    let answer = Reference::encode(writing.lent.code(), &message, &mut block);
+    assert_eq!(answer, Answer::DONE);
+    assert_eq!(run::opening::<Reference>(&mut writing), Answer::DONE);
+    let opening = writing.out.parts().result.to_vec();
+    let queries = queries(&shape.sizes, rng);
+    let value = vec![writing.out.value];
+    let lent = [
+        (Input::Block, block),
+        (Input::Y, value),
+        (Input::Queries, queries),
+        (Input::Opening, opening),
+    ];
+    call.lent.words.extend(lent);
+    call
+}

@@ -1,0 +1,78 @@
+//! Runs a call on an implementation of its job.
+
+use crate::call::{Call, Input, Job};
+use tvarchula_reference::{Answer, CodeJobs, GroundJobs, OpeningJobs};
+
+/// Runs a call of the ground group. A reading is shown as its number, kind and amount.
+pub fn ground<J: GroundJobs>(call: &mut Call) -> Answer {
+    let (lent, out) = (&call.lent, call.out.parts());
+    match call.job {
+        Job::ReadClearance => {
+            let reading = J::read_clearance(lent.single(Input::Word));
+            Answer {
+                number: reading.number,
+                first: reading.kind,
+                second: reading.amount,
+            }
+        }
+        Job::TableToCoefficients => {
+            let table = lent.table.as_ref().expect("a table");
+            J::table_to_coefficients(table, out.result)
+        }
+        Job::CoefficientsToTable => {
+            J::coefficients_to_table(lent.words(Input::Message), out.table, out.work)
+        }
+        Job::Evaluate => J::evaluate(
+            lent.depth(),
+            lent.words(Input::Message),
+            lent.words(Input::Z),
+            out.value,
+        ),
+        other => unreachable!("{other:?} is of another group"),
+    }
+}
+
+/// Runs a call of the code group.
+pub fn code<J: CodeJobs>(call: &mut Call) -> Answer {
+    let (lent, out) = (&call.lent, call.out.parts());
+    match call.job {
+        Job::Encode => J::encode(lent.code(), lent.words(Input::Message), out.result),
+        Job::Decode => J::decode(lent.code(), lent.words(Input::Block), out.result, out.work),
+        Job::Fold => J::fold(
+            lent.depth(),
+            lent.rate(),
+            lent.words(Input::T),
+            lent.words(Input::T2),
+            lent.words(Input::Block),
+            lent.single(Input::Challenge),
+            out.result,
+        ),
+        other => unreachable!("{other:?} is of another group"),
+    }
+}
+
+/// Runs a call of the opening group.
+pub fn opening<J: OpeningJobs>(call: &mut Call) -> Answer {
+    let (lent, out) = (&call.lent, call.out.parts());
+    match call.job {
+        Job::WriteOpening => J::write_opening(
+            lent.code(),
+            lent.words(Input::Message),
+            lent.words(Input::Z),
+            lent.words(Input::R),
+            out.result,
+            out.work,
+            out.value,
+        ),
+        Job::VerifyOpening => J::verify_opening(
+            lent.code(),
+            lent.words(Input::Block),
+            lent.words(Input::Z),
+            lent.single(Input::Y),
+            lent.words(Input::R),
+            lent.words(Input::Queries),
+            lent.words(Input::Opening),
+        ),
+        other => unreachable!("{other:?} is of another group"),
+    }
+}

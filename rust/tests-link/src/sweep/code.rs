@@ -1,0 +1,129 @@
+//! Encoding, decoding, folding.
+
+use super::{good, illegal_sizes, pairs, random, singles, Swept};
+use crate::call::{Call, Input, Job};
+use crate::compare::Comparison;
+use crate::damage::{moved, moved_back};
+use crate::good::{self as calls, Shape};
+use tvarchula_reference::sample::Rng;
+
+const ALL: [Job; 3] = [Job::Encode, Job::Decode, Job::Fold];
+
+/// All calls of the code group but the largest.
+pub fn run(c: &mut Comparison, scale: usize) -> Swept {
+    let mut rng = Rng::new(200);
+    for job in ALL {
+        every_size(c, job, &mut rng)?;
+        for (depth, rate) in [(1, 2), (2, 3), (3, 16)] {
+            singles(c, job, Shape::random(depth, rate), &mut rng)?;
+            pairs(c, job, Shape::any(depth, rate, &mut rng), &mut rng)?;
+        }
+        if job != Job::Fold {
+            pairs(c, job, Shape::any(0, 2, &mut rng), &mut rng)?;
+        }
+        illegal_sizes(c, job, &mut rng)?;
+        random(c, job, 3_000 * scale, 12, &mut rng)?;
+    }
+    blocks(c, 2_000 * scale, &mut rng)?;
+    challenges(c, 500 * scale, &mut rng)?;
+    fold_levels(c, &mut rng)
+}
+
+/// Depths 13 to 16 and rate 16 at the last, once each, and a block of that size that is no codeword.
+pub fn largest(c: &mut Comparison) -> Swept {
+    let mut rng = Rng::new(201);
+    for job in ALL {
+        for (depth, rate) in [(13, 5), (14, 3), (15, 2)] {
+            good(c, job, Shape::any(depth, rate, &mut rng), &mut rng)?;
+        }
+        let mut call = good(c, job, Shape::random(16, 16), &mut rng)?;
+        if job == Job::Decode {
+            let last = call.lent.words_mut(Input::Block).last_mut();
+            let last = last.expect("a block is not empty");
+            *last = moved(*last);
+            call.add_note("last word moved");
+            c.check(&call)?;
+        }
+    }
+    Ok(())
+}
+
+/// All depths 0 to 12 (levels 1 to 12) with all rates, good and with some damage.
+fn every_size(c: &mut Comparison, job: Job, rng: &mut Rng) -> Swept {
+    for depth in usize::from(job == Job::Fold)..=12 {
+        for rate in 2..=16 {
+            good(c, job, Shape::any(depth, rate, rng), rng)?;
+            if depth <= 2 {
+                singles(c, job, Shape::any(depth, rate, rng), rng)?;
+            }
+        }
+    }
+    Ok(())
+}
+
+/// Blocks to decode: every single word of a codeword changed, and any blocks.
+fn blocks(c: &mut Comparison, count: usize, rng: &mut Rng) -> Swept {
+    for (depth, rate) in [
+        (0, 2),
+        (0, 16),
+        (1, 2),
+        (1, 3),
+        (2, 2),
+        (3, 2),
+        (3, 5),
+        (4, 3),
+    ] {
+        let call = good(c, Job::Decode, Shape::any(depth, rate, rng), rng)?;
+        for j in 0..call.lent.words(Input::Block).len() {
+            let mut call = call.clone();
+            call.add_note(&format!("word {j} moved"));
+            let word = call.lent.words(Input::Block)[j];
+            for other in [moved(word), moved_back(word), 0, 1] {
+                call.lent.words_mut(Input::Block)[j] = other;
+                c.check(&call)?;
+            }
+        }
+    }
+    for _ in 0..count {
+        let (depth, rate) = (rng.below(4), 2 + rng.below(3));
+        // Any block: mostly none is a codeword, with small words some are.
+        let call = calls::formed(Job::Decode, Shape::any(depth, rate, rng), rng);
+        c.check(&call)?;
+    }
+    Ok(())
+}
+
+/// Folds by challenges that lie on a diagonal, or at the edges.
+fn challenges(c: &mut Comparison, count: usize, rng: &mut Rng) -> Swept {
+    for _ in 0..count {
+        let (level, rate) = (1 + rng.below(4), 2 + rng.below(15));
+        let mut call: Call = calls::call(Job::Fold, Shape::any(level, rate, rng), rng);
+        let from = rng.pick(&[Input::T, Input::T2]);
+        let words = call.lent.words(from);
+        let on = words[rng.below(words.len())];
+        for challenge in [on, moved(on), 0, 1, 2_147_483_646] {
+            call.lent.words.insert(Input::Challenge, vec![challenge]);
+            c.check(&call)?;
+        }
+    }
+    Ok(())
+}
+
+/// Upper levels 0, 17 and 18, with slices that would fit them, and level 16 at the smallest rate.
+fn fold_levels(c: &mut Comparison, rng: &mut Rng) -> Swept {
+    good(c, Job::Fold, Shape::any(16, 2, rng), rng)?;
+    singles(c, Job::Fold, Shape::any(16, 2, rng), rng)?;
+    for level in [17, 18] {
+        let call = calls::formed(Job::Fold, Shape::any(level, 2, rng), rng);
+        c.check(&call)?;
+    }
+    // A block of level 0 has no halves; with an even rate its length would be two halves' length.
+    let mut call = calls::formed(Job::Fold, Shape::any(1, 2, rng), rng);
+    call.lent.depth = Some(0);
+    for length in 0..=2 {
+        call.lent.words_mut(Input::T).truncate(2 - length);
+        call.lent.words_mut(Input::T2).truncate(2 - length);
+        c.check(&call)?;
+    }
+    Ok(())
+}

@@ -1,0 +1,102 @@
+//! Readings, tables and evaluation.
+
+use super::{good, illegal_sizes, pairs, random, singles, Swept};
+use crate::buffer::Buffer;
+use crate::call::{Call, Input, Job};
+use crate::compare::Comparison;
+use crate::good::{formed, Shape};
+use tvarchula_reference::sample::Rng;
+use tvarchula_reference::Residue;
+
+const TABLES: [Job; 2] = [Job::TableToCoefficients, Job::CoefficientsToTable];
+const ALL: [Job; 3] = [TABLES[0], TABLES[1], Job::Evaluate];
+
+/// All calls of the ground group but the largest.
+pub fn run(c: &mut Comparison, scale: usize) -> Swept {
+    let mut rng = Rng::new(100);
+    readings(c, 20_000 * scale, &mut rng)?;
+    for job in ALL {
+        for depth in 0..=12 {
+            singles(c, job, Shape::any(depth, 2, &mut rng), &mut rng)?;
+        }
+        for depth in [0, 1, 2, 3] {
+            pairs(c, job, Shape::any(depth, 2, &mut rng), &mut rng)?;
+        }
+        illegal_sizes(c, job, &mut rng)?;
+        random(c, job, 2_000 * scale, 12, &mut rng)?;
+    }
+    for job in TABLES {
+        lengths(c, job, &mut rng)?;
+    }
+    corners(c, &mut rng)
+}
+
+/// Depth 16, good and with every damage.
+pub fn largest(c: &mut Comparison) -> Swept {
+    let mut rng = Rng::new(101);
+    for job in ALL {
+        good(c, job, Shape::any(16, 2, &mut rng), &mut rng)?;
+        singles(c, job, Shape::random(16, 2), &mut rng)?;
+    }
+    Ok(())
+}
+
+/// Words around every edge, and any words.
+fn readings(c: &mut Comparison, count: usize, rng: &mut Rng) -> Swept {
+    let p = Residue::MODULUS;
+    let edges = [0, p / 2, p / 2 + 1, p, 2 * p, u32::MAX];
+    let near =
+        |edge: u32| (0..200_u32).flat_map(move |k| [edge.wrapping_add(k), edge.wrapping_sub(k)]);
+    let words: Vec<u32> = edges.into_iter().flat_map(near).collect();
+    let any = (0..count).map(|_| rng.word());
+    for word in words.into_iter().chain(any) {
+        let mut call = Call::new(Job::ReadClearance);
+        call.add_note(&format!("word {word}"));
+        call.lent.words.insert(Input::Word, vec![word]);
+        c.check(&call)?;
+    }
+    Ok(())
+}
+
+/// Tables of every small length and around the largest, all slices of that same length.
+fn lengths(c: &mut Comparison, job: Job, rng: &mut Rng) -> Swept {
+    let large = [127, 128, 129, 1000, 65_535, 65_536, 65_537, 98_304, 131_072];
+    for length in (0..=70).chain(large) {
+        let mut call = formed(job, Shape::any(0, 2, rng), rng);
+        call.add_note(&format!("length {length}"));
+        if job == Job::TableToCoefficients {
+            call.lent.table = Some(vec![-1; length]);
+            call.out.result = Some(Buffer::garbage(length, rng, |word| word));
+        } else {
+            call.lent.words.insert(Input::Message, vec![1; length]);
+            call.out.table = Some(Buffer::garbage(length, rng, |word| word as i32));
+            call.out.work = Some(Buffer::garbage(length, rng, |word| word));
+        }
+        c.check(&call)?;
+    }
+    Ok(())
+}
+
+/// Every message with one word set, at every corner and back to its table: one monomial each, so a
+/// wrong order of variables shows.
+fn corners(c: &mut Comparison, rng: &mut Rng) -> Swept {
+    for depth in 0..=4 {
+        for b in 0..1_usize << depth {
+            let unit: Vec<u32> = (0..1 << depth).map(|k| u32::from(k == b)).collect();
+            let mut back = formed(Job::CoefficientsToTable, Shape::any(depth, 2, rng), rng);
+            back.lent.words.insert(Input::Message, unit.clone());
+            c.check(&back)?;
+            let mut there = formed(Job::TableToCoefficients, Shape::any(depth, 2, rng), rng);
+            there.lent.table = Some(unit.iter().map(|&word| word as i32).collect());
+            c.check(&there)?;
+            for corner in 0..1_usize << depth {
+                let mut call = formed(Job::Evaluate, Shape::any(depth, 2, rng), rng);
+                call.lent.words.insert(Input::Message, unit.clone());
+                let point = (0..depth).map(|i| (corner >> i & 1) as u32).collect();
+                call.lent.words.insert(Input::Z, point);
+                c.check(&call)?;
+            }
+        }
+    }
+    Ok(())
+}

@@ -1,0 +1,86 @@
+//! The calls that are compared, group by group.
+
+pub mod code;
+pub mod ground;
+pub mod opening;
+
+use crate::call::{Call, Job};
+use crate::compare::{Comparison, Difference};
+use crate::damage::{self, Damage};
+use crate::good::{self, Shape};
+use tvarchula_reference::sample::Rng;
+use tvarchula_reference::Answer;
+
+/// What a sweep returns: the first difference, if any.
+pub type Swept = Result<(), Difference>;
+
+/// A good call must be done, whoever runs it.
+fn good(c: &mut Comparison, job: Job, shape: Shape, rng: &mut Rng) -> Result<Call, Difference> {
+    let call = good::call(job, shape, rng);
+    let answer = c.check(&call)?;
+    assert_eq!(answer, Answer::DONE, "a good call was refused: {call}");
+    Ok(call)
+}
+
+/// A good call with these damages.
+fn damaged(c: &mut Comparison, call: &Call, damages: &[Damage], rng: &mut Rng) -> Swept {
+    let mut call = call.clone();
+    for &damage in damages {
+        damage::apply(&mut call, damage, rng);
+    }
+    c.check(&call).map(drop)
+}
+
+/// Every damage alone.
+fn singles(c: &mut Comparison, job: Job, shape: Shape, rng: &mut Rng) -> Swept {
+    let call = good(c, job, shape, rng)?;
+    for damage in damage::all(&call) {
+        damaged(c, &call, &[damage], rng)?;
+    }
+    Ok(())
+}
+
+/// Every two damages at once, in both orders: which refusal comes first shows here.
+fn pairs(c: &mut Comparison, job: Job, shape: Shape, rng: &mut Rng) -> Swept {
+    let call = good(c, job, shape, rng)?;
+    let damages = damage::all(&call);
+    for &first in &damages {
+        for &second in &damages {
+            damaged(c, &call, &[first, second], rng)?;
+        }
+    }
+    Ok(())
+}
+
+/// Good calls, half of them with one to four damages.
+fn random(c: &mut Comparison, job: Job, count: usize, deepest: usize, rng: &mut Rng) -> Swept {
+    for _ in 0..count {
+        let shape = any_shape(job, deepest, rng);
+        let call = good(c, job, shape, rng)?;
+        let damages = damage::all(&call);
+        let some: Vec<_> = (0..rng.below(5)).map(|_| rng.pick(&damages)).collect();
+        damaged(c, &call, &some, rng)?;
+    }
+    Ok(())
+}
+
+/// Any rate, and a depth that is mostly small. Folding has no level 0.
+fn any_shape(job: Job, deepest: usize, rng: &mut Rng) -> Shape {
+    let bound = if rng.one_in(12) {
+        deepest
+    } else {
+        deepest.min(4)
+    };
+    let depth = rng.below(bound + 1).max(usize::from(job == Job::Fold));
+    let rate = 2 + rng.below(15);
+    Shape::any(depth, rate, rng)
+}
+
+/// Calls whose slices fit a depth or rate that is not legal: only the number itself is wrong.
+fn illegal_sizes(c: &mut Comparison, job: Job, rng: &mut Rng) -> Swept {
+    for (depth, rate) in [(17, 2), (18, 3), (2, 0), (2, 1), (2, 17), (3, 20), (17, 17)] {
+        let call = good::formed(job, Shape::any(depth, rate, rng), rng);
+        c.check(&call)?;
+    }
+    Ok(())
+}

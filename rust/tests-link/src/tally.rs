@@ -1,0 +1,77 @@
+//! How many calls were compared, by job and by the number answered.
+
+use crate::call::Job;
+use std::collections::{BTreeMap, BTreeSet};
+use std::fmt;
+use std::io::Write;
+use tvarchula_reference::Answer;
+
+/// The counts of a comparison.
+#[derive(Clone, Debug, Default)]
+pub struct Tally {
+    counts: BTreeMap<Job, BTreeMap<u32, usize>>,
+    places: BTreeMap<(Job, u32), BTreeSet<(u32, u32)>>,
+}
+
+impl Tally {
+    /// Counts one compared call.
+    pub fn count(&mut self, job: Job, answer: Answer) {
+        let numbers = self.counts.entry(job).or_default();
+        *numbers.entry(answer.number).or_default() += 1;
+        let places = self.places.entry((job, answer.number)).or_default();
+        places.insert((answer.first, answer.second));
+    }
+
+    /// All compared calls.
+    pub fn total(&self) -> usize {
+        self.counts.values().flat_map(BTreeMap::values).sum()
+    }
+
+    /// Calls of a job that answered a number.
+    pub fn of(&self, job: Job, number: u32) -> usize {
+        let numbers = self.counts.get(&job);
+        numbers
+            .and_then(|numbers| numbers.get(&number))
+            .copied()
+            .unwrap_or(0)
+    }
+
+    /// How many different places a number was given with.
+    pub fn places(&self, job: Job, number: u32) -> usize {
+        self.places.get(&(job, number)).map_or(0, BTreeSet::len)
+    }
+
+    /// The jobs that were called, each with those of its numbers that never came.
+    pub fn missing(&self) -> Vec<(Job, u32)> {
+        let never = |job: Job| {
+            let absent = job.numbers().iter().filter(move |&&n| self.of(job, n) == 0);
+            absent.map(move |&n| (job, n))
+        };
+        self.counts.keys().flat_map(|&job| never(job)).collect()
+    }
+
+    /// Prints the counts, past the test harness that would hide them.
+    pub fn print(&self, title: &str) {
+        let shown = format!("{title}: {} calls compared\n{self}", self.total());
+        std::io::stderr()
+            .write_all(shown.as_bytes())
+            .expect("stderr");
+    }
+}
+
+impl fmt::Display for Tally {
+    fn fmt(&self, f: &mut fmt::Formatter) -> fmt::Result {
+        for (job, numbers) in &self.counts {
+            let total: usize = numbers.values().sum();
+            write!(f, "  {job:?} {total}:")?;
+            for (&number, count) in numbers {
+                write!(f, " [{number}] {count}")?;
+                if number >= 20 {
+                    write!(f, " at {} places", self.places(*job, number))?;
+                }
+            }
+            writeln!(f)?;
+        }
+        Ok(())
+    }
+}

@@ -1,0 +1,194 @@
+//! Wrong readings, tables and evaluations.
+
+use crate::{afterwards, all_found, asked, bits_reversed, has_large_word, on_changed, prefers};
+use crate::{reduce_words, Sweep};
+use tvarchula_compare::{run, sweep, Call, Input, Job, Runner};
+use tvarchula_reference::table::coefficients_by_variables;
+use tvarchula_reference::{Answer, Reference, Residue};
+
+const REFERENCE: Runner = run::ground::<Reference>;
+const MAX: i32 = 1_073_741_823;
+
+fn reading(call: &mut Call, word: u32, as_if: u32) -> Answer {
+    if call.job == Job::ReadClearance && call.lent.single(Input::Word) == word {
+        return on_changed(call, REFERENCE, |call| {
+            call.lent.words.insert(Input::Word, vec![as_if]);
+        });
+    }
+    REFERENCE(call)
+}
+
+fn reads_p_as_zero(call: &mut Call) -> Answer {
+    reading(call, Residue::MODULUS, 0)
+}
+
+fn reads_zero_as_overlap(call: &mut Call) -> Answer {
+    let answer = REFERENCE(call);
+    if call.job == Job::ReadClearance && answer.number == 0 && answer.second == 0 {
+        return Answer { first: 2, ..answer };
+    }
+    answer
+}
+
+fn reads_the_half_as_free(call: &mut Call) -> Answer {
+    let answer = REFERENCE(call);
+    if call.job == Job::ReadClearance && call.lent.single(Input::Word) == 1_073_741_824 {
+        return Answer {
+            first: 1,
+            second: 1_073_741_824,
+            ..answer
+        };
+    }
+    answer
+}
+
+fn changes_clearances(call: &mut Call, from: i32, to: i32) -> Answer {
+    on_changed(call, REFERENCE, |call| {
+        let table = call.lent.table.iter_mut().flatten();
+        table.filter(|x| **x == from).for_each(|x| *x = to);
+    })
+}
+
+fn takes_a_clearance_too_large(call: &mut Call) -> Answer {
+    changes_clearances(call, MAX + 1, -MAX)
+}
+
+fn takes_a_clearance_too_small(call: &mut Call) -> Answer {
+    changes_clearances(call, -MAX - 1, MAX)
+}
+
+fn refuses_the_largest_clearance(call: &mut Call) -> Answer {
+    changes_clearances(call, MAX, MAX + 1)
+}
+
+fn reverses_the_variables_of_a_table(call: &mut Call) -> Answer {
+    on_changed(call, REFERENCE, |call| {
+        if let Some(table) = &mut call.lent.table {
+            if table.len().is_power_of_two() {
+                *table = bits_reversed(table);
+            }
+        }
+    })
+}
+
+fn reverses_the_variables_on_the_way_back(call: &mut Call) -> Answer {
+    let back = call.job == Job::CoefficientsToTable;
+    afterwards(call, REFERENCE, &[0], |_, call| {
+        if back {
+            let table = call.out.parts().table;
+            let reversed = bits_reversed(table);
+            table.copy_from_slice(&reversed);
+        }
+    })
+}
+
+fn leaves_work_on_the_way_back(call: &mut Call) -> Answer {
+    afterwards(call, REFERENCE, &[0], |before, call| {
+        call.out.work = before.out.work.clone();
+    })
+}
+
+fn clears_work_after_a_refusal(call: &mut Call) -> Answer {
+    afterwards(call, REFERENCE, &[4], |_, call| {
+        call.out.parts().work.fill(0)
+    })
+}
+
+fn takes_a_table_of_131072(call: &mut Call) -> Answer {
+    let long = call.lent.table.as_ref().map_or(0, Vec::len) == 131_072;
+    if long && call.out.parts().result.len() == 131_072 {
+        return Answer::DONE;
+    }
+    REFERENCE(call)
+}
+
+fn refuses_a_table_of_65536(call: &mut Call) -> Answer {
+    let long = call.lent.table.as_ref().map_or(0, Vec::len) == 65_536;
+    if long {
+        return Answer::plain(1);
+    }
+    REFERENCE(call)
+}
+
+fn evaluates_table_values(call: &mut Call) -> Answer {
+    if call.job == Job::Evaluate && asked(call, REFERENCE) == Answer::DONE {
+        return on_changed(call, REFERENCE, |call| {
+            let words = call.lent.words(Input::Message).iter();
+            let table: Vec<_> = words.map(|&w| Residue::new(w).unwrap()).collect();
+            let message = coefficients_by_variables(&table);
+            let message = message.iter().map(|word| word.word()).collect();
+            call.lent.words.insert(Input::Message, message);
+        });
+    }
+    REFERENCE(call)
+}
+
+fn reverses_the_point(call: &mut Call) -> Answer {
+    on_changed(call, REFERENCE, |call| {
+        if call.job == Job::Evaluate {
+            call.lent.words_mut(Input::Z).reverse();
+        }
+    })
+}
+
+fn writes_a_value_after_a_refusal(call: &mut Call) -> Answer {
+    afterwards(call, REFERENCE, &[4], |_, call| {
+        if call.job == Job::Evaluate {
+            call.out.value = 0;
+        }
+    })
+}
+
+fn reduces_words(call: &mut Call) -> Answer {
+    if call.job == Job::Evaluate {
+        return on_changed(call, REFERENCE, reduce_words);
+    }
+    REFERENCE(call)
+}
+
+fn judges_words_before_lengths(call: &mut Call) -> Answer {
+    prefers(call, REFERENCE, 3, 4, has_large_word)
+}
+
+fn judges_lengths_before_the_depth(call: &mut Call) -> Answer {
+    let is_evaluation = call.job == Job::Evaluate;
+    prefers(call, REFERENCE, 1, 3, |_| is_evaluation)
+}
+
+#[test]
+fn ground() {
+    let mutants: [(&str, Runner); 18] = [
+        ("reads p as zero", reads_p_as_zero),
+        ("reads zero as overlap", reads_zero_as_overlap),
+        ("reads the half as free", reads_the_half_as_free),
+        ("takes a clearance too large", takes_a_clearance_too_large),
+        ("takes a clearance too small", takes_a_clearance_too_small),
+        (
+            "refuses the largest clearance",
+            refuses_the_largest_clearance,
+        ),
+        (
+            "reverses the variables of a table",
+            reverses_the_variables_of_a_table,
+        ),
+        (
+            "reverses them on the way back",
+            reverses_the_variables_on_the_way_back,
+        ),
+        ("leaves the work buffer", leaves_work_on_the_way_back),
+        (
+            "clears the work buffer after 4",
+            clears_work_after_a_refusal,
+        ),
+        ("takes a table of 131072", takes_a_table_of_131072),
+        ("refuses a table of 65536", refuses_a_table_of_65536),
+        ("evaluates table values", evaluates_table_values),
+        ("reverses the point", reverses_the_point),
+        ("writes a value after 4", writes_a_value_after_a_refusal),
+        ("reduces words", reduces_words),
+        ("4 before 3", judges_words_before_lengths),
+        ("3 for a wrong depth", judges_lengths_before_the_depth),
+    ];
+    let sweeps: [Sweep; 2] = [|c| sweep::ground::run(c, 1), sweep::ground::largest];
+    all_found(REFERENCE, &mutants, &sweeps);
+}
