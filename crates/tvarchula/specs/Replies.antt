@@ -1,0 +1,35 @@
+-- What the exported functions answer and leave: the jobs' own definitions, with the answer as three numbers. Assumes nothing.
+use mathlib.Core.Path.{_≡_}
+use mathlib.Core.List.{List}
+use Prim.Native.Nat.{ℕ}
+use lib.ListN.{length}
+use Rattle.algebra.specs.Words.{𝔽₁}
+use Rattle.algebra.specs.WordLists.{elements, toWords}
+use Rattle.foldable.specs.Code.{encode}
+use Rattle.job.specs.Outcome.{Outcome, refused, done, kept}
+use Rattle.residue.specs.Residues.{F}
+use Rattle.code.specs.Lent.{lent}
+use Rattle.code.specs.Encoding.{encoding}
+use Rattle.polynomial.specs.Evaluation.{evaluation}
+use Rattle.tvarchula.specs.declared.answer.Reply.{Reply}
+
+-- 0 where a job is done, else the refusal's number
+abbrev pub numberOf : {A : Type 0} → Outcome A → ℕ
+numberOf (refused n) = n
+numberOf (done a) = 0
+
+abbrev pub reply : {A : Type 0} → Outcome A → Reply
+reply o = record { number = numberOf o; first = 0; second = 0 }
+
+-- a single result: written only where the job is done
+abbrev pub given : Outcome ℕ → ℕ → ℕ
+given (refused n) old = old
+given (done v) old = v
+
+pub record EncodeCall (d c : ℕ) (g t t' m old : List ℕ) (r : Reply) (out : List ℕ) : Type 0 where
+  pub answer : r ≡ reply (encoding d c g t t' m (length old))
+  pub result : out ≡ kept (encoding d c g t t' m (length old)) old (toWords 𝔽₁ (encode F (lent g t t') d (elements 𝔽₁ m)))
+
+pub record EvaluateCall (d : ℕ) (m z : List ℕ) (old : ℕ) (r : Reply) (value : ℕ) : Type 0 where
+  pub answer : r ≡ reply (evaluation d m z)
+  pub result : value ≡ given (evaluation d m z) old

@@ -1,0 +1,22 @@
+// Encoding, decoding and folding.
+ghost use mathlib.Core.Path.{_≡_};
+ghost use lib.ListN.{length};
+ghost use Rattle.tvarchula.specs.Replies.{EncodeCall};
+use crate::answer;
+use crate::answer::Reply;
+use code::encode;
+
+#[no_mangle]
+pub extern "C" fn tv_encode(
+    depth: u32,
+    rate: u32,
+    g: &[u32],
+    t: &[u32],
+    t2: &[u32],
+    message: &[u32],
+    block: &mut [u32],
+) -> Reply
+    ensures { λ r. ⌜ EncodeCall depth rate (now (g .entry)) (now (t .entry)) (now (t2 .entry)) (now (message .entry)) (now (block .entry)) r (now (block .exit)) ⌝ }
+{
+    answer::plain(encode::encode(depth, rate, g, t, t2, message, block))
+}
