@@ -108,6 +108,11 @@ differ-at d (x ∷ xs) [] h j k l = absurd (omega arith)
 differ-at d (x ∷ xs) (y ∷ ys) h zero k l = h .0
 differ-at d (x ∷ xs) (y ∷ ys) h (suc j) k l = differ-at d xs ys (h .1) j (omega arith) (omega arith)
 
+pub differ-of : {A : Type 0} (d : A) (xs ys : List A) → ((j : ℕ) → j < length xs → j < length ys → getD xs j d ≡ getD ys j d → ⊥) → Differ xs ys
+differ-of d [] ys h = tt
+differ-of d (x ∷ xs) [] h = tt
+differ-of d (x ∷ xs) (y ∷ ys) h = (h 0 (omega arith) (omega arith), differ-of d xs ys (λ j k l. h (suc j) (omega arith) (omega arith)))
+
 pub zip-row : {A B C : Type 0} (f : A → B → C) (n : ℕ) (g : ℕ → A) (h : ℕ → B) → zip f (row n g) (row n h) ≡ row n (λ j. f (g j) (h j))
 unfolding zip row
 zip-row f zero g h = refl

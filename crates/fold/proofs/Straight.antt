@@ -1,0 +1,64 @@
+-- The lines drawn from the inverses of T' - T are the fold. Assumes nothing.
+use mathlib.Core.Path.{_≡_, sym, ap, ap₂, _∙_}
+use mathlib.Core.List.{List}
+use Prim.Native.Nat.{ℕ, _+_, _<_}
+use native.Mathlib.Omega.{arith}
+use lib.ListN.{length, getD, take, drop, length-take, length-drop}
+use lib.Seq.{ext-getD, getD-take, getD-drop}
+use Rattle.algebra.specs.Lists.{row, length-row, getD-row, Differ, differ-of}
+use Rattle.algebra.specs.Words.{𝔽₁}
+use Rattle.algebra.specs.WordLists.{elements, toWords, length-elements, getD-elements}
+use Rattle.foldable.specs.Code.{line, foldAlong}
+use Rattle.foldable.specs.Level.{Level, level, length-level, getD-level}
+use Rattle.residue.specs.Residues.{F, K, el, word, inv, _⊞_, _⊟_, _⊠_}
+use Rattle.fold.specs.Job.{foldWords}
+use Rattle.fold.specs.Steps.{gap, through, throughAll, Diagonals}
+use Rattle.fold.specs.Laws.{through-line}
+use Rattle.fold.proofs.Elements.{stands, elements-differ}
+use Rattle.fold.proofs.Chains.{getD-rows}
+
+-- one place of a line, from its words
+pub line-word : (a t s u v : ℕ) {d m r : ℕ} → d ≡ word (el a ⊟ el t) → m ≡ word (el s ⊠ (el v ⊟ el u)) → r ≡ word (el u ⊞ el d ⊠ el m)
+    → r ≡ word (through (el a) (el t) (el s) (el u) (el v))
+line-word a t s u v p q e = e ∙ ap₂ (λ x y. word (el u ⊞ x ⊠ y)) (stands _ p) (stands _ q)
+
+module _ {n : ℕ} {t t2 : List ℕ} (D : Diagonals n t t2) (w : List ℕ) (sized : length w ≡ n + n) (a : ℕ) where
+  apart : Differ (elements 𝔽₁ t) (elements 𝔽₁ t2)
+  apart =
+      differ-of (K .𝟘) (elements 𝔽₁ t) (elements 𝔽₁ t2)
+      (λ k h l e. elements-differ D k (omega (arith, length-elements 𝔽₁ t, D .first)) (sym (getD-elements 𝔽₁ t k) ∙ e ∙ getD-elements 𝔽₁ t2 k))
+
+  left : length (take n (elements 𝔽₁ w)) ≡ n
+  left = simp length-take (omega (arith, length-elements 𝔽₁ w))
+
+  level-of : Level F (elements 𝔽₁ t) (elements 𝔽₁ t2) (take n (elements 𝔽₁ w)) (drop n (elements 𝔽₁ w))
+  level-of =
+      level F n (elements 𝔽₁ t) (elements 𝔽₁ t2) (take n (elements 𝔽₁ w)) (drop n (elements 𝔽₁ w))
+      (length-elements 𝔽₁ t ∙ D .first) (length-elements 𝔽₁ t2 ∙ D .second) left (simp length-drop (omega (arith, length-elements 𝔽₁ w))) apart
+
+  at : (k : ℕ) → k < n
+      → getD (foldAlong F n (el a) (elements 𝔽₁ t) (elements 𝔽₁ t2) (elements 𝔽₁ w)) k (K .𝟘)
+      ≡ line F (el a) (el (getD t k 0)) (el (getD t2 k 0)) (el (getD w k 0)) (el (getD w (n + k) 0))
+  at k h =
+      let u = getD-take n (elements 𝔽₁ w) k (K .𝟘) h ∙ getD-elements 𝔽₁ w k in
+      let v = getD-drop n (elements 𝔽₁ w) k (K .𝟘) ∙ getD-elements 𝔽₁ w (n + k) in
+      getD-level F (line F (el a)) level-of k (omega (arith, left))
+      ∙ (λ i. line F (el a) (getD-elements 𝔽₁ t k i) (getD-elements 𝔽₁ t2 k i) (u i) (v i))
+
+  pub drawn : (s : List ℕ) → s ≡ toWords 𝔽₁ (row n (λ k. inv (gap t t2 k))) → toWords 𝔽₁ (row n (throughAll n a t w s)) ≡ foldWords n t t2 w a
+  drawn s e =
+      ap (toWords 𝔽₁)
+      (ext-getD (K .𝟘) (row n (throughAll n a t w s)) (foldAlong F n (el a) (elements 𝔽₁ t) (elements 𝔽₁ t2) (elements 𝔽₁ w))
+      (length-row n (throughAll n a t w s) ∙ sym (length-level F (line F (el a)) level-of ∙ left))
+      (λ k h. same k (omega (arith, length-row n (throughAll n a t w s)))))
+    where
+      inverse : (k : ℕ) → k < n → el (getD s k 0) ≡ inv (gap t t2 k)
+      inverse k h = stands _ (ap (λ l. getD l k 0) e ∙ getD-rows n (λ i. inv (gap t t2 i)) k h)
+
+      same : (k : ℕ) → k < n
+          → getD (row n (throughAll n a t w s)) k (K .𝟘) ≡ getD (foldAlong F n (el a) (elements 𝔽₁ t) (elements 𝔽₁ t2) (elements 𝔽₁ w)) k (K .𝟘)
+      same k h =
+          getD-row n (throughAll n a t w s) k (K .𝟘) h
+          ∙ ap (λ x. el (getD w k 0) ⊞ (el a ⊟ el (getD t k 0)) ⊠ (x ⊠ (el (getD w (n + k) 0) ⊟ el (getD w k 0)))) (inverse k h)
+          ∙ through-line (el a) (el (getD t k 0)) (el (getD t2 k 0)) (el (getD w k 0)) (el (getD w (n + k) 0))
+          ∙ sym (at k h)

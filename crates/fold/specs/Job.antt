@@ -1,0 +1,49 @@
+-- The job of folding a block by one level: its refusals, its answer and what it writes, for every input. Assumes nothing.
+use mathlib.Core.Path.{_≡_}
+use mathlib.Core.Bool.{Bool, _&&_}
+use mathlib.Core.List.{List}
+use Prim.Native.Nat.{ℕ, _-_}
+use lib.Dec.{leb, ltb, eqb}
+use lib.ListN.{length}
+use Rattle.algebra.specs.Words.{𝔽₁}
+use Rattle.algebra.specs.WordLists.{elements, toWords}
+use Rattle.foldable.specs.Code.{foldAlong}
+use Rattle.job.specs.Limits.{deepest, rateOk, blockSize}
+use Rattle.job.specs.Outcome.{Outcome, done, must, kept, outcome}
+use Rattle.job.specs.declared.Answer.{Answer}
+use Rattle.residue.specs.Residues.{P, F, el}
+use Rattle.residue.specs.Scans.{allBelow, allDiffer}
+
+-- the upper level is 1 to 16
+unfoldable pub levelOk : ℕ → Bool
+levelOk level = leb 1 level && leb level deepest
+
+-- the numbers of words lent: n_i for T_i, for T'_i and for the result, n_(i+1) for the block
+unfoldable pub lengthsOk : ℕ → ℕ → ℕ → ℕ → ℕ → ℕ → Bool
+lengthsOk level rate t t2 block out =
+    eqb t (blockSize rate (level - 1))
+    && (eqb t2 (blockSize rate (level - 1))
+    && (eqb block (blockSize rate level)
+    && eqb out (blockSize rate (level - 1))))
+
+unfoldable pub wordsOk : List ℕ → List ℕ → List ℕ → ℕ → Bool
+wordsOk t t2 block a = allBelow t && (allBelow t2 && (allBelow block && ltb a P))
+
+-- the outcome that is due
+unfoldable pub due : ℕ → ℕ → List ℕ → List ℕ → List ℕ → ℕ → ℕ → Outcome (Unit {0})
+due level rate t t2 block a out =
+    must (levelOk level) 1
+    (must (rateOk rate) 2
+    (must (lengthsOk level rate (length t) (length t2) (length block) out) 3
+    (must (wordsOk t t2 block a) 4
+    (must (allDiffer t t2) 6
+    (done tt)))))
+
+-- the words of the fold by a, for diagonals and a result of n words
+abbrev pub foldWords : ℕ → List ℕ → List ℕ → List ℕ → ℕ → List ℕ
+foldWords n t t2 block a = toWords 𝔽₁ (foldAlong F n (el a) (elements 𝔽₁ t) (elements 𝔽₁ t2) (elements 𝔽₁ block))
+
+-- the answer r, and the result, which held old
+pub record Folded (level rate : ℕ) (t t2 block : List ℕ) (a : ℕ) (old : List ℕ) (r : Answer) (out : List ℕ) : Type 0 where
+  pub answer : outcome r ≡ due level rate t t2 block a (length old)
+  pub result : out ≡ kept (due level rate t t2 block a (length old)) old (foldWords (blockSize rate (level - 1)) t t2 block a)
