@@ -1,7 +1,7 @@
 -- What the exported functions answer and leave: the jobs' own definitions, with the answer as three numbers. Assumes nothing.
 use mathlib.Core.Path.{_≡_}
 use mathlib.Core.List.{List}
-use Prim.Native.Nat.{ℕ}
+use Prim.Native.Nat.{ℕ, _-_}
 use lib.ListN.{length}
 use Rattle.algebra.specs.Words.{𝔽₁}
 use Rattle.algebra.specs.WordLists.{elements, toWords}
@@ -10,6 +10,8 @@ use Rattle.job.specs.Outcome.{Outcome, refused, done, kept}
 use Rattle.residue.specs.Residues.{F}
 use Rattle.code.specs.Lent.{lent}
 use Rattle.code.specs.Encoding.{encoding}
+use Rattle.fold.specs.Job.{due, foldWords}
+use Rattle.job.specs.Limits.{blockSize}
 use Rattle.polynomial.specs.Evaluation.{evaluation}
 use Rattle.tvarchula.specs.declared.answer.Reply.{Reply}
 
@@ -33,3 +35,7 @@ pub record EncodeCall (d c : ℕ) (g t t' m old : List ℕ) (r : Reply) (out : L
 pub record EvaluateCall (d : ℕ) (m z : List ℕ) (old : ℕ) (r : Reply) (value : ℕ) : Type 0 where
   pub answer : r ≡ reply (evaluation d m z)
   pub result : value ≡ given (evaluation d m z) old
+
+pub record FoldCall (level c : ℕ) (t t' w : List ℕ) (a : ℕ) (old : List ℕ) (r : Reply) (out : List ℕ) : Type 0 where
+  pub answer : r ≡ reply (due level c t t' w a (length old))
+  pub result : out ≡ kept (due level c t t' w a (length old)) old (foldWords (blockSize c (level - 1)) t t' w a)

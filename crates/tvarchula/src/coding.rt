@@ -1,7 +1,5 @@
 // Encoding, decoding and folding.
-ghost use mathlib.Core.Path.{_≡_};
-ghost use lib.ListN.{length};
-ghost use Rattle.tvarchula.specs.Replies.{EncodeCall};
+ghost use Rattle.tvarchula.specs.Replies.{EncodeCall, FoldCall};
 use crate::answer;
 use crate::answer::Reply;
 use code::encode;
@@ -19,4 +17,19 @@ pub extern "C" fn tv_encode(
     ensures { λ r. ⌜ EncodeCall depth rate (now (g .entry)) (now (t .entry)) (now (t2 .entry)) (now (message .entry)) (now (block .entry)) r (now (block .exit)) ⌝ }
 {
     answer::plain(encode::encode(depth, rate, g, t, t2, message, block))
+}
+
+#[no_mangle]
+pub extern "C" fn tv_fold(
+    level: u32,
+    rate: u32,
+    t: &[u32],
+    t2: &[u32],
+    block: &[u32],
+    challenge: u32,
+    folded: &mut [u32],
+) -> Reply
+    ensures { λ r. ⌜ FoldCall level rate (now (t .entry)) (now (t2 .entry)) (now (block .entry)) challenge (now (folded .entry)) r (now (folded .exit)) ⌝ }
+{
+    answer::plain(fold::fold(level, rate, t, t2, block, challenge, folded))
 }

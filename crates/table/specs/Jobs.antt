@@ -1,0 +1,50 @@
+-- What the two table jobs answer, and what they leave in the buffers. Assumes nothing.
+use mathlib.Core.Path.{_≡_}
+use mathlib.Core.Bool.{_&&_}
+use mathlib.Core.List.{List, map}
+use Prim.Native.Nat.{ℕ, _^_}
+use lib.Dec.{eqb}
+use lib.IntN.{ℤ}
+use lib.ListN.{length, replicate}
+use Rattle.algebra.specs.Tests.{all}
+use Rattle.algebra.specs.Words.{𝔽₁}
+use Rattle.algebra.specs.WordLists.{Low, elements, toWords}
+use Rattle.multilinear.specs.Table.{table}
+use Rattle.job.specs.declared.Answer.{Answer}
+use Rattle.job.specs.Outcome.{Outcome, refused, done, must, outcome, kept}
+use Rattle.residue.specs.Residues.{P, K, el}
+use Rattle.residue.specs.Scans.{allBelow}
+use Rattle.table.specs.Clearances.{inRange, residueOf, clearanceOf}
+use Rattle.table.specs.Depth.{isPower, exponent}
+
+-- the outcome for a table, and for the length of the message's buffer
+abbrev pub tableOutcome : List ℤ → ℕ → Outcome (Unit {0})
+tableOutcome t n = must (isPower (length t)) 1 (must (eqb n (length t)) 3 (must (all inRange t) 9 (done tt)))
+
+-- m is the message of the table t: the polynomial with these coefficients has entry b as its value at corner b
+pub record MessageOf (t : List ℤ) (m : List ℕ) : Type 0 where
+  pub size : length m ≡ 2 ^ exponent (length t)
+  pub low : Low P m
+  pub values : table K (exponent (length t)) (elements 𝔽₁ m) ≡ map (λ x. el (residueOf x)) t
+
+-- the buffer is as it was where a refusal is due, and else as made
+abbrev pub Leaves : {A B : Type 0} → Outcome A → (old new : List B) → Type 0 → Type 0
+Leaves (refused n) old new made = new ≡ old
+Leaves (done a) old new made = made
+
+pub record ToCoefficients (t : List ℤ) (old new : List ℕ) (r : Answer) : Type 0 where
+  pub answer : outcome r ≡ tableOutcome t (length old)
+  pub message : Leaves (tableOutcome t (length old)) old new (MessageOf t new)
+
+-- the outcome for a message, and for the lengths of the clearances' and the work buffer
+abbrev pub messageOutcome : List ℕ → ℕ → ℕ → Outcome (Unit {0})
+messageOutcome m n k = must (isPower (length m)) 1 (must (eqb n (length m) && eqb k (length m)) 3 (must (allBelow m) 4 (done tt)))
+
+-- the table of a message, as clearances
+abbrev pub tableOf : List ℕ → List ℤ
+tableOf m = map clearanceOf (toWords 𝔽₁ (table K (exponent (length m)) (elements 𝔽₁ m)))
+
+pub record ToTable (m : List ℕ) (old new : List ℤ) (work left : List ℕ) (r : Answer) : Type 0 where
+  pub answer : outcome r ≡ messageOutcome m (length old) (length work)
+  pub clearances : new ≡ kept (messageOutcome m (length old) (length work)) old (tableOf m)
+  pub cleared : left ≡ kept (messageOutcome m (length old) (length work)) work (replicate (length work) 0)

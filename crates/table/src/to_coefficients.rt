@@ -1,0 +1,59 @@
+// From a table of clearances to the coefficients of its polynomial.
+ghost use mathlib.Core.Path.{_≡_};
+ghost use mathlib.Core.Bool.{true};
+ghost use mathlib.Core.List.{map};
+ghost use lib.ListN.{length};
+ghost use Rattle.algebra.specs.Tests.{all};
+ghost use Rattle.algebra.specs.Words.{𝔽₁};
+ghost use Rattle.algebra.specs.WordLists.{elements, toWords};
+ghost use Rattle.multilinear.specs.Table.{coefficients};
+ghost use Rattle.job.specs.Outcome.{outcome};
+ghost use Rattle.residue.specs.Residues.{K};
+ghost use Rattle.table.specs.Clearances.{inRange, residueOf};
+ghost use Rattle.table.specs.Depth.{isPower, exponent};
+ghost use Rattle.table.specs.Jobs.{tableOutcome, ToCoefficients};
+use crate::length;
+use crate::slices;
+use crate::transform;
+use crate::transform::Way;
+use job::Answer;
+use job::Refusal;
+
+fn judge(clearances: &[i32], len: usize) -> Answer
+    ensures { λ r. ⌜ outcome r ≡ tableOutcome (now (clearances .entry)) len ⌝ }
+{
+    if !length::is_power(clearances.len()) {
+        return Answer::Refused(Refusal::Depth);
+    }
+    if len != clearances.len() {
+        return Answer::Refused(Refusal::Length);
+    }
+    if !slices::all_in_range(clearances) {
+        return Answer::Refused(Refusal::Clearance);
+    }
+    Answer::Done
+}
+
+fn find(clearances: &[i32], message: &mut [u32])
+    requires { ⌜ isPower (length (now clearances)) ≡ true ⌝ }
+    requires { ⌜ length (now message) ≡ length (now clearances) ⌝ }
+    requires { ⌜ all inRange (now clearances) ≡ true ⌝ }
+    ensures { λ _. ⌜ now (message .exit) ≡ toWords 𝔽₁ (coefficients K (exponent (length (now (clearances .entry)))) (elements 𝔽₁ (map residueOf (now (clearances .entry))))) ⌝ }
+{
+    let depth = length::depth_of(clearances.len());
+    slices::to_words(clearances, message);
+    transform::transform(Way::ToCoefficients, depth, message);
+}
+
+pub fn table_to_coefficients(clearances: &[i32], message: &mut [u32]) -> Answer
+    ensures { λ r. ⌜ ToCoefficients (now (clearances .entry)) (now (message .entry)) (now (message .exit)) r ⌝ }
+{
+    let verdict = judge(clearances, message.len());
+    match verdict {
+        Answer::Done => {
+            find(clearances, message);
+            Answer::Done
+        }
+        Answer::Refused(r) => Answer::Refused(r),
+    }
+}

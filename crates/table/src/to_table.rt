@@ -1,0 +1,59 @@
+// From the coefficients of a polynomial to its table of clearances.
+ghost use mathlib.Core.Path.{_≡_};
+ghost use mathlib.Core.Bool.{true};
+ghost use lib.ListN.{length, replicate};
+ghost use Rattle.algebra.specs.WordLists.{Low};
+ghost use Rattle.job.specs.Outcome.{outcome};
+ghost use Rattle.residue.specs.Residues.{P};
+ghost use Rattle.table.specs.Depth.{isPower};
+ghost use Rattle.table.specs.Jobs.{messageOutcome, tableOf, ToTable};
+use crate::length;
+use crate::slices;
+use crate::transform;
+use crate::transform::Way;
+use job::Answer;
+use job::Refusal;
+use residue::scan;
+use residue::words;
+
+fn judge(message: &[u32], table: usize, work: usize) -> Answer
+    ensures { λ r. ⌜ outcome r ≡ messageOutcome (now (message .entry)) table work ⌝ }
+{
+    if !length::is_power(message.len()) {
+        return Answer::Refused(Refusal::Depth);
+    }
+    if table != message.len() {
+        return Answer::Refused(Refusal::Length);
+    }
+    if work != message.len() {
+        return Answer::Refused(Refusal::Length);
+    }
+    if !scan::all_below(message) {
+        return Answer::Refused(Refusal::Word);
+    }
+    Answer::Done
+}
+
+fn find(message: &[u32], clearances: &mut [i32], work: &mut [u32])
+    requires { ⌜ (isPower (length (now message)) ≡ true) × Low P (now message) ⌝ }
+    requires { ⌜ (length (now clearances) ≡ length (now message)) × (length (now work) ≡ length (now message)) ⌝ }
+    ensures { λ _. ⌜ (now (clearances .exit) ≡ tableOf (now (message .entry))) × (now (work .exit) ≡ replicate (length (now (work .entry))) 0) ⌝ }
+{
+    let depth = length::depth_of(message.len());
+    words::copy(message, work);
+    transform::transform(Way::ToTable, depth, work);
+    slices::to_clearances(work, clearances);
+}
+
+pub fn coefficients_to_table(message: &[u32], clearances: &mut [i32], work: &mut [u32]) -> Answer
+    ensures { λ r. ⌜ ToTable (now (message .entry)) (now (clearances .entry)) (now (clearances .exit)) (now (work .entry)) (now (work .exit)) r ⌝ }
+{
+    let verdict = judge(message, clearances.len(), work.len());
+    match verdict {
+        Answer::Done => {
+            find(message, clearances, work);
+            Answer::Done
+        }
+        Answer::Refused(r) => Answer::Refused(r),
+    }
+}
