@@ -2,7 +2,8 @@
 use mathlib.Core.Path.{_≡_}
 use mathlib.Core.List.{List}
 use Prim.Native.Nat.{ℕ, _-_}
-use lib.ListN.{length}
+use lib.IntN.{ℤ}
+use lib.ListN.{length, replicate}
 use Rattle.algebra.specs.Words.{𝔽₁}
 use Rattle.algebra.specs.WordLists.{elements, toWords}
 use Rattle.foldable.specs.Code.{encode}
@@ -13,7 +14,10 @@ use Rattle.code.specs.Encoding.{encoding}
 use Rattle.fold.specs.Job.{due, foldWords}
 use Rattle.job.specs.Limits.{blockSize}
 use Rattle.polynomial.specs.Evaluation.{evaluation}
+use Rattle.table.specs.Clearances.{Meaning, free, overlap}
+use Rattle.table.specs.Jobs.{tableOutcome, MessageOf, Leaves, messageOutcome, tableOf}
 use Rattle.tvarchula.specs.declared.answer.Reply.{Reply}
+use Rattle.tvarchula.specs.declared.ground.ReadingReply.{ReadingReply}
 
 -- 0 where a job is done, else the refusal's number
 abbrev pub numberOf : {A : Type 0} → Outcome A → ℕ
@@ -27,6 +31,21 @@ reply o = record { number = numberOf o; first = 0; second = 0 }
 abbrev pub given : Outcome ℕ → ℕ → ℕ
 given (refused n) old = old
 given (done v) old = v
+
+-- a reading as three numbers
+abbrev pub readingReply : Outcome Meaning → ReadingReply
+readingReply (refused n) = record { number = n; kind = 0; amount = 0 }
+readingReply (done (free n)) = record { number = 0; kind = 1; amount = n }
+readingReply (done (overlap n)) = record { number = 0; kind = 2; amount = n }
+
+pub record ToCoefficientsCall (t : List ℤ) (old new : List ℕ) (r : Reply) : Type 0 where
+  pub answer : r ≡ reply (tableOutcome t (length old))
+  pub message : Leaves (tableOutcome t (length old)) old new (MessageOf t new)
+
+pub record ToTableCall (m : List ℕ) (old new : List ℤ) (work left : List ℕ) (r : Reply) : Type 0 where
+  pub answer : r ≡ reply (messageOutcome m (length old) (length work))
+  pub clearances : new ≡ kept (messageOutcome m (length old) (length work)) old (tableOf m)
+  pub cleared : left ≡ kept (messageOutcome m (length old) (length work)) work (replicate (length work) 0)
 
 pub record EncodeCall (d c : ℕ) (g t t' m old : List ℕ) (r : Reply) (out : List ℕ) : Type 0 where
   pub answer : r ≡ reply (encoding d c g t t' m (length old))

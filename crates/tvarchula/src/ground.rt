@@ -1,8 +1,61 @@
 // Clearances, tables and evaluation.
 ghost use mathlib.Core.Path.{_≡_};
-ghost use Rattle.tvarchula.specs.Replies.{EvaluateCall};
+ghost use Rattle.table.specs.Reading.{reading};
+ghost use Rattle.tvarchula.specs.Replies.{readingReply, ToCoefficientsCall, ToTableCall, EvaluateCall};
+use crate::answer;
 use crate::answer::Reply;
 use polynomial::Evaluation;
+use table::reading::Reading;
+
+// kind is 1 for free, 2 for an overlap; kind and amount are 0 where the word is refused.
+#[repr(C)]
+pub struct ReadingReply {
+    pub number: u32,
+    pub kind: u32,
+    pub amount: u32,
+}
+
+#[no_mangle]
+pub extern "C" fn tv_read_clearance(word: u32) -> ReadingReply
+    ensures { λ r. ⌜ r ≡ readingReply (reading word) ⌝ }
+{
+    let r = table::reading::read_clearance(word);
+    match r {
+        Reading::Free(n) => ReadingReply {
+            number: 0,
+            kind: 1,
+            amount: n,
+        },
+        Reading::Overlap(n) => ReadingReply {
+            number: 0,
+            kind: 2,
+            amount: n,
+        },
+        Reading::Refused(r) => ReadingReply {
+            number: job::number(r),
+            kind: 0,
+            amount: 0,
+        },
+    }
+}
+
+#[no_mangle]
+pub extern "C" fn tv_table_to_coefficients(clearances: &[i32], message: &mut [u32]) -> Reply
+    ensures { λ r. ⌜ ToCoefficientsCall (now (clearances .entry)) (now (message .entry)) (now (message .exit)) r ⌝ }
+{
+    answer::plain(table::to_coefficients::table_to_coefficients(clearances, message))
+}
+
+#[no_mangle]
+pub extern "C" fn tv_coefficients_to_table(
+    message: &[u32],
+    clearances: &mut [i32],
+    work: &mut [u32],
+) -> Reply
+    ensures { λ r. ⌜ ToTableCall (now (message .entry)) (now (clearances .entry)) (now (clearances .exit)) (now (work .entry)) (now (work .exit)) r ⌝ }
+{
+    answer::plain(table::to_table::coefficients_to_table(message, clearances, work))
+}
 
 #[no_mangle]
 pub extern "C" fn tv_evaluate(depth: u32, message: &[u32], z: &[u32], value: &mut u32) -> Reply

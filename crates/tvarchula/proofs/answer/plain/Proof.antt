@@ -1,31 +1,22 @@
-use mathlib.Core.Path.{_≡_, refl, sym, ap, _∙_}
-use Rattle.job.specs.Outcome.{outcome, refused, done}
-use Rattle.polynomial.specs.Evaluation.{outcome as evaluated}
+use mathlib.Core.Path.{sym, ap, _∙_}
+use Rattle.job.specs.Outcome.{outcome}
 use Rattle.tvarchula.specs.Replies.{reply, given}
 use borrow.Author.Needs.{needs}
 use Rattle.tvarchula.proofs.answer.plain.Statement.{statement}
 use Rattle.tvarchula.proofs.answer.plain.Tie as tie
-use Rattle.tvarchula.proofs.answer.plain.Reads as reads
-use Rattle.tvarchula.proofs.answer.plain.Lts as lts
-use Rattle.job.proofs.number.Reads as number-reads
 
--- src/answer.rt:18:25
 enum-told : tie.Need-enum-told
 enum-told c = search needs
 
--- src/answer.rt:19:25
 enum-known-answer : tie.Need-enum-known-answer
 enum-known-answer c = search needs
 
--- src/answer.rt:19:31
 number-requires : tie.Need-number-requires
 number-requires c κs = search needs
 
--- src/answer.rt:14:1
 returns : tie.Need-returns
 returns c = ap (λ a. reply (outcome a)) (sym (c .enum-told .given .1))
 
--- src/answer.rt:14:1
 returns-2 : tie.Need-returns-2
 returns-2 c = (λ i. record { number = c .number .ensures i; first = 0; second = 0 }) ∙ ap (λ a. reply (outcome a)) (sym (c .before .before .answer .given .1))
 

@@ -1,38 +1,27 @@
-use mathlib.Core.Path.{_≡_, refl, sym, ap, _∙_}
-use Rattle.job.specs.Outcome.{outcome, refused, done}
+use mathlib.Core.Path.{sym, ap, _∙_}
 use Rattle.polynomial.specs.Evaluation.{outcome as evaluated}
 use Rattle.tvarchula.specs.Replies.{reply, given}
 use borrow.Author.Needs.{needs}
 use Rattle.tvarchula.proofs.ground.tv_evaluate.Statement.{statement}
 use Rattle.tvarchula.proofs.ground.tv_evaluate.Tie as tie
-use Rattle.tvarchula.proofs.ground.tv_evaluate.Reads as reads
-use Rattle.tvarchula.proofs.ground.tv_evaluate.Lts as lts
-use Rattle.job.proofs.number.Reads as number-reads
-use Rattle.polynomial.proofs.evaluate.Reads as evaluate-reads
 
--- src/ground.rt:11:9
 evaluate-requires : tie.Need-evaluate-requires
 evaluate-requires c κs = search needs
 
--- src/ground.rt:13:27
 enum-known-e : tie.Need-enum-known-e
 enum-known-e c = search needs
 
--- src/ground.rt:21:29
 enum-known-e-2 : tie.Need-enum-known-e-2
 enum-known-e-2 c = search needs
 
--- src/ground.rt:22:21
 number-requires : tie.Need-number-requires
 number-requires c κs = search needs
 
--- src/ground.rt:7:1
 returns : tie.Need-returns
 returns c =
     let e = ap evaluated (sym (c .before .e .given .1)) ∙ c .before .before .before .evaluate .ensures in
     record { answer = ap reply e; result = ap (λ o. given o (c .before .before .before .before .before .before .args .value .now)) e }
 
--- src/ground.rt:7:1
 returns-2 : tie.Need-returns-2
 returns-2 c =
     let e = ap evaluated (sym (c .before .before .e2 .given .1)) ∙ c .before .before .before .before .evaluate .ensures in

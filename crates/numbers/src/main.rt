@@ -1,0 +1,15 @@
+// Runs the order's numbers and writes what comes of them, a line each; the file stdout says what they should be.
+mod code_numbers;
+mod ground;
+mod print;
+
+fn main() {
+    ground::readings();
+    ground::lengths();
+    ground::ranges();
+    ground::transforms();
+    ground::evaluations();
+    code_numbers::encodings();
+    code_numbers::decodings();
+    code_numbers::refusals();
+}

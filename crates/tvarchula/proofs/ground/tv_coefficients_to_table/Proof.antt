@@ -1,0 +1,25 @@
+use mathlib.Core.Path.{ap, _∙_}
+use Rattle.tvarchula.specs.Replies.{reply}
+use borrow.Author.Needs.{needs}
+use Rattle.tvarchula.proofs.ground.tv_coefficients_to_table.Statement.{statement}
+use Rattle.tvarchula.proofs.ground.tv_coefficients_to_table.Tie as tie
+
+coefficients-to-table-requires : tie.Need-coefficients-to-table-requires
+coefficients-to-table-requires c κs = search needs
+
+plain-requires : tie.Need-plain-requires
+plain-requires c κs = search needs
+
+same-length : tie.Need-same-length
+same-length c = search needs
+
+same-length-2 : tie.Need-same-length-2
+same-length-2 c = search needs
+
+returns : tie.Need-returns
+returns c = let e = c .before .before .before .before .coefficients-to-table .ensures in record { answer = c .plain .ensures ∙ ap reply (e .answer); clearances = e .clearances; cleared = e .cleared }
+
+pub tv-coefficients-to-table-spec : {M : Type 1} → statement M
+tv-coefficients-to-table-spec =
+    tie.close
+    (tie.spec coefficients-to-table-requires plain-requires same-length same-length-2 returns)
