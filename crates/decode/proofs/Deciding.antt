@@ -1,0 +1,85 @@
+-- A block is a codeword exactly where it is that of the message which its first column allows. Assumes nothing.
+use mathlib.Core.Path.{_≡_, refl, sym, ap, ap₂, _∙_}
+use mathlib.Core.Bool.{true, false, _&&_, false≢true}
+use mathlib.Core.List.{List, [], _∷_}
+use Prim.Native.Nat.{ℕ, _*_, _^_, _≤_}
+use native.Mathlib.Nat.{one-mul}
+use native.Mathlib.Omega.{arith}
+use lib.Dec.{eqb}
+use lib.ListN.{length, take, length-take}
+use lib.Seq.{ext-getD}
+use borrow.Author.Tests.{eqb-true, eq-eqb}
+use Rattle.algebra.specs.Tests.{all₂, all₂-at}
+use Rattle.algebra.specs.Words.{𝔽₁}
+use Rattle.algebra.specs.WordLists.{Low, low-words, elements, toWords, length-elements, length-words, elements-words, words-elements}
+use Rattle.foldable.specs.Code.{encode, Codeword}
+use Rattle.foldable.specs.Decode.{decodes, length-decode}
+use Rattle.foldable.specs.Encode.{length-encode}
+use Rattle.residue.specs.Residues.{P, F}
+use Rattle.code.specs.Lent.{lent}
+use Rattle.job.specs.declared.Answer.the-variants.{Done, Refused}
+use Rattle.job.specs.declared.Refusal.the-variants.{NoCodeword}
+use Rattle.decode.specs.Decoding.{Settled, message, none}
+use Rattle.decode.specs.Laws.{decoder}
+use Rattle.decode.specs.Steps.{allSame, Decodes, decoded, Again}
+
+same-is : (v w : List ℕ) → length w ≡ length v → allSame v w ≡ true → v ≡ w
+same-is v w l e = ext-getD 0 v w (sym l) (λ k h. eqb-true _ _ (all₂-at eqb v w 0 e k h (omega arith)))
+
+same-self : (v : List ℕ) → allSame v v ≡ true
+unfolding all₂
+same-self [] = refl
+same-self (x ∷ v) = ap₂ _&&_ (eq-eqb x x refl) (same-self v)
+
+module _ (d : ℕ) (g t t' b : List ℕ) (k : ℕ) (𝓓 : Decodes d g t t' b k) where
+  length-block : length (elements 𝔽₁ b) ≡ length (elements 𝔽₁ g) * 2 ^ d
+  length-block = length-elements 𝔽₁ b ∙ 𝓓 .size ∙ ap (λ n. n * 2 ^ d) (sym (length-elements 𝔽₁ g))
+
+  pub length-decoded : length (decoded d g t t' b) ≡ 2 ^ d
+  unfolding decoded
+  length-decoded =
+      length-words 𝔽₁ _
+      ∙ length-decode F (lent g t t') 1 _ (decoder g t t' (𝓓 .coding .row) (omega (arith, 𝓓 .narrow)) (𝓓 .unit)) d (𝓓 .coding .legal) (elements 𝔽₁ b) length-block
+      ∙ one-mul (2 ^ d)
+
+  low-decoded : Low P (decoded d g t t' b)
+  unfolding decoded
+  low-decoded = low-words 𝔽₁ _
+
+  -- the message is encoded again
+  pub again : (w : List ℕ) → length w ≡ k → take (2 ^ d) w ≡ decoded d g t t' b → Again d g t t' w
+  again w l e = record { coding = 𝓓 .coding; depth = 𝓓 .depth; some = omega (arith, 𝓓 .narrow); message = rw e low-decoded; size = l ∙ 𝓓 .work }
+
+  -- and compared
+  abbrev pub coded : List ℕ
+  coded = toWords 𝔽₁ (encode F (lent g t t') d (elements 𝔽₁ (decoded d g t t' b)))
+
+  length-coded : length coded ≡ length b
+  length-coded =
+      length-words 𝔽₁ _ ∙ length-encode F (lent g t t') d (𝓓 .coding .legal) _
+      ∙ ap (λ n. n * 2 ^ d) (length-elements 𝔽₁ g) ∙ sym (𝓓 .size)
+
+  pub same-lengths : (w : List ℕ) → w ≡ coded → length b ≡ length w
+  same-lengths w e = sym (ap length e ∙ length-coded)
+
+  pub found : (old out : List ℕ) → allSame coded b ≡ true → out ≡ decoded d g t t' b → Settled d g t t' b old Done out
+  found old out e q =
+      message refl (ap length q ∙ length-decoded) (rw q low-decoded)
+      (ap (λ m. encode F (lent g t t') d (elements 𝔽₁ m)) q ∙ sym (elements-words 𝔽₁ _) ∙ ap (elements 𝔽₁) (same-is coded b (sym length-coded) e))
+
+  codeword-same : Codeword F (lent g t t') d (elements 𝔽₁ b) → coded ≡ b
+  unfolding decoded
+  codeword-same w =
+      ap (λ m. toWords 𝔽₁ (encode F (lent g t t') d m)) (elements-words 𝔽₁ _)
+      ∙ ap (toWords 𝔽₁) (decodes F (lent g t t') 1 _ (decoder g t t' (𝓓 .coding .row) (omega (arith, 𝓓 .narrow)) (𝓓 .unit)) d (𝓓 .coding .legal) (elements 𝔽₁ b) length-block .0 w)
+      ∙ words-elements 𝔽₁ b (𝓓 .block)
+
+  pub not-found : (old : List ℕ) → allSame coded b ≡ false → Settled d g t t' b old (Refused NoCodeword) old
+  not-found old e = none refl (λ w. false≢true (sym e ∙ ap (λ v. allSame v b) (codeword-same w) ∙ same-self b)) refl
+
+  -- and taken from the front of the work buffer
+  pub front : (w : List ℕ) (n : ℕ) → n ≡ 2 ^ d → take (2 ^ d) w ≡ decoded d g t t' b → (take n w ≡ decoded d g t t' b) × (n ≡ length (take n w)) × (n ≤ length w)
+  front w n e q =
+      let p : take n w ≡ decoded d g t t' b = ap (λ i. take i w) e ∙ q in
+      let l : length (take n w) ≡ n = ap length p ∙ length-decoded ∙ sym e in
+      (p, sym l, omega (arith, length-take n w))

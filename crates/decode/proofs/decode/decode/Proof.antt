@@ -1,0 +1,51 @@
+use mathlib.Core.Path.{refl, sym, ap, _∙_}
+use lib.ListN.{replicate}
+use Rattle.job.specs.Outcome.{outcome}
+use Rattle.decode.specs.Decoding.{refusal, settled}
+use Rattle.decode.specs.Laws.{decodes}
+use borrow.Author.Needs.{needs}
+use Rattle.decode.proofs.decode.decode.Statement.{statement}
+use Rattle.decode.proofs.decode.decode.Tie as tie
+
+judge-requires : tie.Need-judge-requires
+judge-requires c κs = search needs
+
+enum-told : tie.Need-enum-told
+enum-told c = search needs
+
+settle-requires : tie.Need-settle-requires
+settle-requires c κs =
+    let s = c .before .before .before .before .before .before .before .before .before .before .before in let a = s .args in let told = c .before .before .before .before .judge .ensures in decodes (a .depth) (a .rate) (a .g .now) (a .t .now) (a .t2 .now) (a .block .now) _ _ (sym told ∙ ap outcome (c .before .before .enum-told .given .1))
+
+clear-requires : tie.Need-clear-requires
+clear-requires c κs = search needs
+
+same-length : tie.Need-same-length
+same-length c = search needs
+
+same-length-2 : tie.Need-same-length-2
+same-length-2 c = search needs
+
+returns : tie.Need-returns
+returns c =
+    let told = c .before .before .before .before .before .before .before .before .before .before .before .before .before .judge .ensures in settled (sym told ∙ ap outcome (c .before .before .before .before .before .before .before .before .before .before .before .enum-told .given .1)) (c .before .before .before .before .before .before .before .before .settle .ensures) (c .before .before .clear .ensures ∙ ap (λ n. replicate n 0) (c .before .before .before .before .before .before .before .before .settle .kept .1 .1 .1 .1 .1 .1 .0))
+
+enum-told-2 : tie.Need-enum-told-2
+enum-told-2 c = search needs
+
+returns-2 : tie.Need-returns-2
+returns-2 c = let told = c .before .before .judge .ensures in let q = ap outcome (c .enum-told2 .given .1) in refusal _ (sym told ∙ q) q refl refl
+
+pub decode-spec : {M : Type 1} → statement M
+decode-spec =
+    tie.close
+    (tie.spec
+    judge-requires
+    enum-told
+    settle-requires
+    clear-requires
+    same-length
+    same-length-2
+    returns
+    enum-told-2
+    returns-2)

@@ -1,0 +1,326 @@
+use native.Mathlib.Omega.{arith}
+use borrow.Author.Needs.{needs}
+use lib.ListN.{length-set}
+use Rattle.decode.proofs.Undoing.{some-words, undo-none, half-before, off-within, uncrossing, undo-left, half-within, undo-right, length-out, undone}
+use Prim.Native.Nat.{ℕ, _<_}
+use borrow.Fn.Kinds.{In}
+use borrow.Fn.PlainCycle.{Measures, is, falls, and}
+use Rattle.decode.proofs.undo.undo.Reads as undo
+use Rattle.decode.proofs.undo.undo.Kinds as undo-kinds
+use Rattle.decode.proofs.undo.+undo.Lts-undo as undo-lts
+use Rattle.decode.proofs.place.product.Reads as product-reads
+use Rattle.decode.proofs.undo.halved.Reads as halved-reads
+use Rattle.decode.proofs.undo.uncross.Reads as uncross-reads
+use Rattle.decode.proofs.undo.+undo.{statement}
+use Rattle.decode.proofs.undo.+undo.Tie.{close}
+
+abbrev μ-undo : Measures 2 undo-kinds.ps ℕ
+μ-undo κs a = a .0
+
+abbrev undo-at : ℕ → In 2 undo-kinds.ps
+undo-at t = and 2 undo-kinds.ps (is 2 undo-kinds.ps μ-undo t) undo.Pre
+
+abbrev undo-below : ℕ → In 2 undo-kinds.ps
+undo-below t = and 2 undo-kinds.ps (falls 2 undo-kinds.ps _<_ μ-undo t) undo.Pre
+
+undo-slice-read-product : (t : ℕ) → undo-lts.Need-slice-read-product (
+  product-reads.Asked,
+  product-reads.Learnt,
+  halved-reads.Asked,
+  halved-reads.Learnt,
+  uncross-reads.Asked,
+  uncross-reads.Learnt,
+  undo-below t,
+  undo.Post,
+) (undo-at t) undo.Post
+undo-slice-read-product t c = let s = c .before .before .before .before in let a = s .args in some-words (a .depth) (a .a) (a .x) (a .c) (a .t .now) (a .w .now) (s .pre .1)
+
+undo-product-requires : (t : ℕ) → undo-lts.Need-product-requires (
+  product-reads.Asked,
+  product-reads.Learnt,
+  halved-reads.Asked,
+  halved-reads.Learnt,
+  uncross-reads.Asked,
+  uncross-reads.Learnt,
+  undo-below t,
+  undo.Post,
+) (undo-at t) undo.Post
+undo-product-requires t c κs =
+    let s = c .before .before .before .before in let a = s .args in (s .pre .1 .unit, s .pre .1 .block .low 0 (some-words (a .depth) (a .a) (a .x) (a .c) (a .t .now) (a .w .now) (s .pre .1)))
+
+undo-slice-write-w : (t : ℕ) → undo-lts.Need-slice-write-w (
+  product-reads.Asked,
+  product-reads.Learnt,
+  halved-reads.Asked,
+  halved-reads.Learnt,
+  uncross-reads.Asked,
+  uncross-reads.Learnt,
+  undo-below t,
+  undo.Post,
+) (undo-at t) undo.Post
+undo-slice-write-w t c = let s = c .before .before .before .before .before in let a = s .args in some-words (a .depth) (a .a) (a .x) (a .c) (a .t .now) (a .w .now) (s .pre .1)
+
+undo-same-length : (t : ℕ) → undo-lts.Need-same-length (
+  product-reads.Asked,
+  product-reads.Learnt,
+  halved-reads.Asked,
+  halved-reads.Learnt,
+  uncross-reads.Asked,
+  uncross-reads.Learnt,
+  undo-below t,
+  undo.Post,
+) (undo-at t) undo.Post
+undo-same-length t c = simp length-set
+
+undo-returns : (t : ℕ) → undo-lts.Need-returns (
+  product-reads.Asked,
+  product-reads.Learnt,
+  halved-reads.Asked,
+  halved-reads.Learnt,
+  uncross-reads.Asked,
+  uncross-reads.Learnt,
+  undo-below t,
+  undo.Post,
+) (undo-at t) undo.Post
+undo-returns t c =
+    let s = c .before .before .before .before .before in let a = s .args in undo-none (a .depth) (a .a) (a .x) (a .c) (a .t .now) (a .w .now) (s .pre .1) (omega arith) _ (c .product .ensures)
+
+undo-halved-requires : (t : ℕ) → undo-lts.Need-halved-requires (
+  product-reads.Asked,
+  product-reads.Learnt,
+  halved-reads.Asked,
+  halved-reads.Learnt,
+  uncross-reads.Asked,
+  uncross-reads.Learnt,
+  undo-below t,
+  undo.Post,
+) (undo-at t) undo.Post
+undo-halved-requires t c κs = let s = c .before .before .before in let a = s .args in (omega arith, s .pre .1 .depth, s .pre .1 .wide)
+
+undo-add-q : (t : ℕ) → undo-lts.Need-add-q (
+  product-reads.Asked,
+  product-reads.Learnt,
+  halved-reads.Asked,
+  halved-reads.Learnt,
+  uncross-reads.Asked,
+  uncross-reads.Learnt,
+  undo-below t,
+  undo.Post,
+) (undo-at t) undo.Post
+undo-add-q t c =
+    let s = c .before .before .before .before .before in let a = s .args in let p = c .before .halved in let u = uncrossing (a .depth) (a .a) (a .x) (a .c) (a .t .now) (a .w .now) (s .pre .1) (p .result .half) (p .result .skip) (p .result .off) (p .result .low) (p .ensures) .within in omega arith
+
+undo-sub-b : (t : ℕ) → undo-lts.Need-sub-b (
+  product-reads.Asked,
+  product-reads.Learnt,
+  halved-reads.Asked,
+  halved-reads.Learnt,
+  uncross-reads.Asked,
+  uncross-reads.Learnt,
+  undo-below t,
+  undo.Post,
+) (undo-at t) undo.Post
+undo-sub-b t c =
+    let s = c .before .before .before .before .before in let a = s .args in let p = c .before .halved in half-before (a .depth) (a .a) (a .x) (a .c) (a .t .now) (a .w .now) (s .pre .1) (p .result .half) (p .result .skip) (p .result .off) (p .result .low) (p .ensures)
+
+undo-mul-uncross : (t : ℕ) → undo-lts.Need-mul-uncross (
+  product-reads.Asked,
+  product-reads.Learnt,
+  halved-reads.Asked,
+  halved-reads.Learnt,
+  uncross-reads.Asked,
+  uncross-reads.Learnt,
+  undo-below t,
+  undo.Post,
+) (undo-at t) undo.Post
+undo-mul-uncross t c =
+    let s = c .before .before .before .before .before in let a = s .args in let p = c .before .halved in let u = off-within (a .depth) (a .a) (a .x) (a .c) (a .t .now) (a .w .now) (s .pre .1) (p .result .half) (p .result .skip) (p .result .off) (p .result .low) (p .ensures) in omega arith
+
+undo-sub-uncross : (t : ℕ) → undo-lts.Need-sub-uncross (
+  product-reads.Asked,
+  product-reads.Learnt,
+  halved-reads.Asked,
+  halved-reads.Learnt,
+  uncross-reads.Asked,
+  uncross-reads.Learnt,
+  undo-below t,
+  undo.Post,
+) (undo-at t) undo.Post
+undo-sub-uncross t c =
+    let s = c .before .before .before .before .before in let a = s .args in let p = c .before .halved in off-within (a .depth) (a .a) (a .x) (a .c) (a .t .now) (a .w .now) (s .pre .1) (p .result .half) (p .result .skip) (p .result .off) (p .result .low) (p .ensures)
+
+undo-part-uncross-start : (t : ℕ) → undo-lts.Need-part-uncross-start (
+  product-reads.Asked,
+  product-reads.Learnt,
+  halved-reads.Asked,
+  halved-reads.Learnt,
+  uncross-reads.Asked,
+  uncross-reads.Learnt,
+  undo-below t,
+  undo.Post,
+) (undo-at t) undo.Post
+undo-part-uncross-start t c =
+    let s = c .before .before .before .before .before in let a = s .args in let p = c .before .halved in off-within (a .depth) (a .a) (a .x) (a .c) (a .t .now) (a .w .now) (s .pre .1) (p .result .half) (p .result .skip) (p .result .off) (p .result .low) (p .ensures)
+
+undo-part-uncross-end : (t : ℕ) → undo-lts.Need-part-uncross-end (
+  product-reads.Asked,
+  product-reads.Learnt,
+  halved-reads.Asked,
+  halved-reads.Learnt,
+  uncross-reads.Asked,
+  uncross-reads.Learnt,
+  undo-below t,
+  undo.Post,
+) (undo-at t) undo.Post
+undo-part-uncross-end t c = search needs
+
+undo-uncross-requires : (t : ℕ) → undo-lts.Need-uncross-requires (
+  product-reads.Asked,
+  product-reads.Learnt,
+  halved-reads.Asked,
+  halved-reads.Learnt,
+  uncross-reads.Asked,
+  uncross-reads.Learnt,
+  undo-below t,
+  undo.Post,
+) (undo-at t) undo.Post
+undo-uncross-requires t c κs =
+    let s = c .before .before .before .before .before .before .before in let a = s .args in let p = c .before .before .before .halved in uncrossing (a .depth) (a .a) (a .x) (a .c) (a .t .now) (a .w .now) (s .pre .1) (p .result .half) (p .result .skip) (p .result .off) (p .result .low) (p .ensures)
+
+undo-undo-requires : (t : ℕ) → undo-lts.Need-undo-requires (
+  product-reads.Asked,
+  product-reads.Learnt,
+  halved-reads.Asked,
+  halved-reads.Learnt,
+  uncross-reads.Asked,
+  uncross-reads.Learnt,
+  undo-below t,
+  undo.Post,
+) (undo-at t) undo.Post
+undo-undo-requires t c κs =
+    let s = c .before .before .before .before .before .before .before .before .before .before .before in let a = s .args in let p = c .before .before .before .before .before .before .before .halved in (omega (arith, p .ensures .low-is, s .pre .0), undo-left (a .depth) (a .a) (a .x) (a .c) (a .t .now) (a .w .now) (s .pre .1) (p .result .half) (p .result .skip) (p .result .off) (p .result .low) (p .ensures) (c .before .before .before .uncross .last .1 .1 .1 .1 .0) (c .before .before .before .uncross .kept .1 .1 .1 .1 .0) (c .before .before .before .uncross .ensures))
+
+undo-mul-undo : (t : ℕ) → undo-lts.Need-mul-undo (
+  product-reads.Asked,
+  product-reads.Learnt,
+  halved-reads.Asked,
+  halved-reads.Learnt,
+  uncross-reads.Asked,
+  uncross-reads.Learnt,
+  undo-below t,
+  undo.Post,
+) (undo-at t) undo.Post
+undo-mul-undo t c =
+    let s = c .before .before .before .before .before .before .before .before .before .before .before .before .before .before in let a = s .args in let p = c .before .before .before .before .before .before .before .before .before .before .halved in let u = half-within (a .depth) (a .a) (a .x) (a .c) (a .t .now) (a .w .now) (s .pre .1) (p .result .half) (p .result .skip) (p .result .off) (p .result .low) (p .ensures) (c .before .before .before .before .before .before .uncross .last .1 .1 .1 .1 .0) (c .before .before .before .before .before .before .uncross .kept .1 .1 .1 .1 .0) (c .before .before .before .before .before .before .uncross .ensures) (c .before .before .undo .last .1 .1 .1 .1 .1 .0) (c .before .before .undo .kept .1 .1 .1 .1 .1 .0) (c .before .before .undo .ensures) in omega arith
+
+undo-sub-undo : (t : ℕ) → undo-lts.Need-sub-undo (
+  product-reads.Asked,
+  product-reads.Learnt,
+  halved-reads.Asked,
+  halved-reads.Learnt,
+  uncross-reads.Asked,
+  uncross-reads.Learnt,
+  undo-below t,
+  undo.Post,
+) (undo-at t) undo.Post
+undo-sub-undo t c =
+    let s = c .before .before .before .before .before .before .before .before .before .before .before .before .before .before in let a = s .args in let p = c .before .before .before .before .before .before .before .before .before .before .halved in half-within (a .depth) (a .a) (a .x) (a .c) (a .t .now) (a .w .now) (s .pre .1) (p .result .half) (p .result .skip) (p .result .off) (p .result .low) (p .ensures) (c .before .before .before .before .before .before .uncross .last .1 .1 .1 .1 .0) (c .before .before .before .before .before .before .uncross .kept .1 .1 .1 .1 .0) (c .before .before .before .before .before .before .uncross .ensures) (c .before .before .undo .last .1 .1 .1 .1 .1 .0) (c .before .before .undo .kept .1 .1 .1 .1 .1 .0) (c .before .before .undo .ensures)
+
+undo-part-undo-start : (t : ℕ) → undo-lts.Need-part-undo-start (
+  product-reads.Asked,
+  product-reads.Learnt,
+  halved-reads.Asked,
+  halved-reads.Learnt,
+  uncross-reads.Asked,
+  uncross-reads.Learnt,
+  undo-below t,
+  undo.Post,
+) (undo-at t) undo.Post
+undo-part-undo-start t c =
+    let s = c .before .before .before .before .before .before .before .before .before .before .before .before .before .before in let a = s .args in let p = c .before .before .before .before .before .before .before .before .before .before .halved in half-within (a .depth) (a .a) (a .x) (a .c) (a .t .now) (a .w .now) (s .pre .1) (p .result .half) (p .result .skip) (p .result .off) (p .result .low) (p .ensures) (c .before .before .before .before .before .before .uncross .last .1 .1 .1 .1 .0) (c .before .before .before .before .before .before .uncross .kept .1 .1 .1 .1 .0) (c .before .before .before .before .before .before .uncross .ensures) (c .before .before .undo .last .1 .1 .1 .1 .1 .0) (c .before .before .undo .kept .1 .1 .1 .1 .1 .0) (c .before .before .undo .ensures)
+
+undo-part-undo-end : (t : ℕ) → undo-lts.Need-part-undo-end (
+  product-reads.Asked,
+  product-reads.Learnt,
+  halved-reads.Asked,
+  halved-reads.Learnt,
+  uncross-reads.Asked,
+  uncross-reads.Learnt,
+  undo-below t,
+  undo.Post,
+) (undo-at t) undo.Post
+undo-part-undo-end t c = search needs
+
+undo-undo-requires-2 : (t : ℕ) → undo-lts.Need-undo-requires-2 (
+  product-reads.Asked,
+  product-reads.Learnt,
+  halved-reads.Asked,
+  halved-reads.Learnt,
+  uncross-reads.Asked,
+  uncross-reads.Learnt,
+  undo-below t,
+  undo.Post,
+) (undo-at t) undo.Post
+undo-undo-requires-2 t c κs =
+    let s = c .before .before .before .before .before .before .before .before .before .before .before .before .before .before .before in let a = s .args in let p = c .before .before .before .before .before .before .before .before .before .before .before .halved in (omega (arith, p .ensures .low-is, s .pre .0), undo-right (a .depth) (a .a) (a .x) (a .c) (a .t .now) (a .w .now) (s .pre .1) (p .result .half) (p .result .skip) (p .result .off) (p .result .low) (p .ensures) (c .before .before .before .before .before .before .before .uncross .last .1 .1 .1 .1 .0) (c .before .before .before .before .before .before .before .uncross .kept .1 .1 .1 .1 .0) (c .before .before .before .before .before .before .before .uncross .ensures) (c .before .before .before .undo .last .1 .1 .1 .1 .1 .0) (c .before .before .before .undo .kept .1 .1 .1 .1 .1 .0) (c .before .before .before .undo .ensures))
+
+undo-same-length-2 : (t : ℕ) → undo-lts.Need-same-length-2 (
+  product-reads.Asked,
+  product-reads.Learnt,
+  halved-reads.Asked,
+  halved-reads.Learnt,
+  uncross-reads.Asked,
+  uncross-reads.Learnt,
+  undo-below t,
+  undo.Post,
+) (undo-at t) undo.Post
+undo-same-length-2 t c =
+    let s = c .before .before .before .before .before .before .before .before .before .before .before .before .before .before .before .before .before .before in let a = s .args in let p = c .before .before .before .before .before .before .before .before .before .before .before .before .before .before .halved in length-out (a .depth) (a .a) (a .x) (a .c) (a .t .now) (a .w .now) (s .pre .1) (p .result .half) (p .result .skip) (p .result .off) (p .result .low) (p .ensures) (c .before .before .before .before .before .before .before .before .before .before .uncross .last .1 .1 .1 .1 .0) (c .before .before .before .before .before .before .before .before .before .before .uncross .kept .1 .1 .1 .1 .0) (c .before .before .before .before .before .before .before .before .before .before .uncross .ensures) (c .before .before .before .before .before .before .undo .last .1 .1 .1 .1 .1 .0) (c .before .before .before .before .before .before .undo .kept .1 .1 .1 .1 .1 .0) (c .before .before .before .before .before .before .undo .ensures) (c .before .before .undo2 .last .1 .1 .1 .1 .1 .0) (c .before .before .undo2 .kept .1 .1 .1 .1 .1 .0)
+
+undo-returns-2 : (t : ℕ) → undo-lts.Need-returns-2 (
+  product-reads.Asked,
+  product-reads.Learnt,
+  halved-reads.Asked,
+  halved-reads.Learnt,
+  uncross-reads.Asked,
+  uncross-reads.Learnt,
+  undo-below t,
+  undo.Post,
+) (undo-at t) undo.Post
+undo-returns-2 t c =
+    let s = c .before .before .before .before .before .before .before .before .before .before .before .before .before .before .before .before .before .before in let a = s .args in let p = c .before .before .before .before .before .before .before .before .before .before .before .before .before .before .halved in undone (a .depth) (a .a) (a .x) (a .c) (a .t .now) (a .w .now) (s .pre .1) (p .result .half) (p .result .skip) (p .result .off) (p .result .low) (p .ensures) (c .before .before .before .before .before .before .before .before .before .before .uncross .last .1 .1 .1 .1 .0) (c .before .before .before .before .before .before .before .before .before .before .uncross .kept .1 .1 .1 .1 .0) (c .before .before .before .before .before .before .before .before .before .before .uncross .ensures) (c .before .before .before .before .before .before .undo .last .1 .1 .1 .1 .1 .0) (c .before .before .before .before .before .before .undo .kept .1 .1 .1 .1 .1 .0) (c .before .before .before .before .before .before .undo .ensures) (c .before .before .undo2 .last .1 .1 .1 .1 .1 .0) (c .before .before .undo2 .ensures)
+
+pub +undo-spec : {M : Type 1} → statement M
++undo-spec = close μ-undo λ t. undo-lts.spec (
+  product-reads.Asked,
+  product-reads.Learnt,
+  halved-reads.Asked,
+  halved-reads.Learnt,
+  uncross-reads.Asked,
+  uncross-reads.Learnt,
+  undo-below t,
+  undo.Post,
+)
+    (undo-at t)
+    undo.Post
+    (undo-slice-read-product t)
+    (undo-product-requires t)
+    (undo-slice-write-w t)
+    (undo-same-length t)
+    (undo-returns t)
+    (undo-halved-requires t)
+    (undo-add-q t)
+    (undo-sub-b t)
+    (undo-mul-uncross t)
+    (undo-sub-uncross t)
+    (undo-part-uncross-start t)
+    (undo-part-uncross-end t)
+    (undo-uncross-requires t)
+    (undo-undo-requires t)
+    (undo-mul-undo t)
+    (undo-sub-undo t)
+    (undo-part-undo-start t)
+    (undo-part-undo-end t)
+    (undo-undo-requires-2 t)
+    (undo-same-length-2 t)
+    (undo-returns-2 t)

@@ -1,0 +1,39 @@
+-- The job of decoding: its answer, its result and its work buffer, for every input. Assumes nothing.
+use mathlib.Core.Path.{_≡_}
+use mathlib.Core.Bool.{Bool, _&&_}
+use mathlib.Core.List.{List}
+use Prim.Native.Nat.{ℕ, _^_}
+use lib.Dec.{eqb}
+use lib.ListN.{length, replicate}
+use Rattle.algebra.specs.Words.{𝔽₁}
+use Rattle.algebra.specs.WordLists.{Low, elements}
+use Rattle.foldable.specs.Code.{encode, Codeword}
+use Rattle.job.specs.declared.Answer.{Answer}
+use Rattle.job.specs.Outcome.{Outcome, refused, done, outcome, must, _⨾_}
+use Rattle.job.specs.Limits.{blockSize}
+use Rattle.residue.specs.Residues.{P, F}
+use Rattle.residue.specs.Scans.{allBelow}
+use Rattle.code.specs.Lent.{lent}
+use Rattle.code.specs.Parameters.{limits, rowLengths, rowWords, legalRow}
+
+-- of the lengths of g, T, T', block, result and work buffer
+unfoldable pub decodeLengths : ℕ → ℕ → ℕ → ℕ → ℕ → ℕ → ℕ → ℕ → Bool
+decodeLengths d c g t t' b m k = rowLengths d c g t t' && (eqb b (blockSize c d) && (eqb m (2 ^ d) && eqb k (blockSize c d)))
+
+-- the refusals 1 to 6, with a result of m words and a work buffer of k
+unfoldable pub decoding : ℕ → ℕ → List ℕ → List ℕ → List ℕ → List ℕ → ℕ → ℕ → Outcome (Unit {0})
+decoding d c g t t' b m k =
+    limits d c
+    ⨾ must (decodeLengths d c (length g) (length t) (length t') (length b) m k) 3
+    (must (rowWords g t t' && allBelow b) 4
+    (legalRow g t t'))
+
+-- answer r and result out for a block for which none of these is due: out is a message whose codeword it is; or it is no codeword, and out is as it was
+pub data Settled (d : ℕ) (g t t' b old : List ℕ) (r : Answer) (out : List ℕ) : Type 0 where
+  message : outcome r ≡ done tt → length out ≡ 2 ^ d → Low P out → encode F (lent g t t') d (elements 𝔽₁ out) ≡ elements 𝔽₁ b → Settled d g t t' b old r out
+  none : outcome r ≡ refused 8 → (Codeword F (lent g t t') d (elements 𝔽₁ b) → ⊥) → out ≡ old → Settled d g t t' b old r out
+
+-- answer r, result out and work buffer work, which were old and space
+pub data Decoded (d c : ℕ) (g t t' b old space : List ℕ) (r : Answer) (out work : List ℕ) : Type 0 where
+  refusal : (n : ℕ) → decoding d c g t t' b (length old) (length space) ≡ refused n → outcome r ≡ refused n → out ≡ old → work ≡ space → Decoded d c g t t' b old space r out work
+  settled : decoding d c g t t' b (length old) (length space) ≡ done tt → Settled d g t t' b old r out → work ≡ replicate (length space) 0 → Decoded d c g t t' b old space r out work

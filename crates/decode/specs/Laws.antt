@@ -1,0 +1,165 @@
+-- What holds where a block may be decoded, and what the contract of decoding says of two results and of codewords. Assumes nothing.
+use mathlib.Core.Path.{_≡_, refl, sym, ap, _∙_}
+use mathlib.Core.Logic.{_↔_}
+use mathlib.Core.Bool.{_&&_}
+use mathlib.Core.List.{List, [], _∷_}
+use Prim.Native.Nat.{ℕ, zero, suc, _^_, _<_, _≤_}
+use native.Mathlib.Nat.{one-mul}
+use native.Mathlib.Omega.{arith}
+use lib.Dec.{eqb}
+use lib.ListN.{length, getD}
+use borrow.Author.Tests.{eqb-true, leb-true}
+use Rattle.algebra.specs.Tests.{and-both}
+use Rattle.algebra.specs.Vector.{Vectors, vectors}
+use Rattle.algebra.specs.Words.{𝔽₁}
+use Rattle.algebra.specs.WordLaws.{el-apart}
+use Rattle.algebra.specs.WordLists.{Low, elements, toWords, length-elements, words-elements}
+use Rattle.foldable.specs.Code.{encode, Codeword}
+use Rattle.foldable.specs.Decode.{Decoder, rowDecoder, unique-decoded}
+use Rattle.job.specs.declared.Refusal.{Refusal}
+use Rattle.job.specs.declared.Refusal.the-variants.{Depth, Rate, Length, Word, BaseRow, Diagonals, Queries, NoCodeword, Clearance}
+use Rattle.job.specs.declared.Answer.{Answer}
+use Rattle.job.specs.declared.Answer.the-variants.{Done, Refused}
+use Rattle.job.specs.Outcome.{Outcome, refused, done, outcome, _⨾_, must-done}
+use Rattle.job.specs.Limits.{deepest, blockSize, diagonalsSize, rate-least, rate-most}
+use Rattle.residue.specs.Residues.{P, F, K, el, inv}
+use Rattle.residue.specs.Scans.{allBelow, noneZero, allDiffer, all-below, none-zero, all-differ}
+use Rattle.code.specs.Lent.{lent}
+use Rattle.code.specs.Parameters.{limits, rowLengths, rowWords, within, row-lengths, lent-coding}
+use Rattle.decode.specs.Decoding.{decodeLengths, decoding, Settled, message, none, Decoded, refusal, settled}
+use Rattle.decode.specs.Steps.{Decodes}
+
+infixr 71 _⊛_
+open Vectors (vectors K) using (_⊛_)
+
+both : {A : Type 0} (o : Outcome (Unit {0})) {next : Outcome A} {a : A} → o ⨾ next ≡ done a → (o ≡ done tt) × (next ≡ done a)
+both (refused n) e = absurd (let z : _≡_ {A = ℕ} 0 1 = cc in omega arith)
+both (done tt) e = (refl, e)
+
+-- no refusal from 1 to 6 is due
+pub decodes : (d c : ℕ) (g t t' b : List ℕ) (m k : ℕ) → decoding d c g t t' b m k ≡ done tt → Decodes d g t t' b k × (m ≡ 2 ^ d)
+unfolding decoding decodeLengths
+decodes d c g t t' b m k e =
+    let o = both (limits d c) e in
+    let w = within d c (sym (o .0)) in
+    let s = must-done (decodeLengths d c (length g) (length t) (length t') (length b) m k) 3 _ (o .1) in
+    let l = and-both (rowLengths d c (length g) (length t) (length t')) _ (s .0) in
+    let l₂ = and-both (eqb (length b) (blockSize c d)) _ (l .1) in
+    let l₃ = and-both (eqb m (2 ^ d)) _ (l₂ .1) in
+    let r = row-lengths d c (length g) (length t) (length t') (l .0) in
+    let u = must-done (rowWords g t t' && allBelow b) 4 _ (s .1) in
+    let v = and-both (rowWords g t t') _ (u .0) in
+    let x = must-done (noneZero g) 5 _ (u .1) in
+    let y = must-done (allDiffer t t') 6 _ (x .1) in
+    let lo : 2 ≤ length g = rw (r .row) (rate-least c (w .1)) in
+    let same : (n : ℕ) → n ≡ blockSize c d → n ≡ blockSize (length g) d = λ n q. q ∙ ap (λ a. blockSize a d) (sym (r .row)) in
+    let z : getD g 0 0 ≡ 0 → ⊥ = none-zero g (x .0) 0 (omega arith) in (
+      record {
+        coding = lent-coding d c g t t' (l .0) (v .0) (u .1);
+        depth = leb-true d deepest (w .0);
+        narrow = lo;
+        wide = rw (r .row) (rate-most c (w .1));
+        first = r .first ∙ ap (λ a. diagonalsSize a d) (sym (r .row));
+        second = r .second ∙ ap (λ a. diagonalsSize a d) (sym (r .row));
+        unit = omega arith;
+        apart = λ n h. all-differ t t' (y .0) n h (omega (arith, r .first, r .second));
+        size = same (length b) (eqb-true _ _ (l₂ .0));
+        block = all-below b (v .1);
+        work = same k (eqb-true _ _ (l₃ .1));
+      },
+      eqb-true _ _ (l₃ .0),
+    )
+
+-- a row whose first word is not 0 is decoded on its first column
+pub decoder : (g : List ℕ) (t t' : List ℕ) → Low P g → 0 < length g → 0 < getD g 0 0 → Decoder F (lent g t t') 1 (λ v. inv (el (getD g 0 0)) ⊛ v)
+unfolding elements
+decoder [] t t' l h n = absurd (omega arith)
+decoder (x ∷ g) t t' l h n = rowDecoder F (el x) (elements 𝔽₁ g) _ _ (el-apart P K (𝔽₁ .words) x n (l .low 0 h))
+
+-- an answer is determined by its outcome
+abbrev ofNumber : ℕ → Refusal
+ofNumber zero = Depth
+ofNumber (suc zero) = Depth
+ofNumber (suc (suc zero)) = Rate
+ofNumber (suc (suc (suc zero))) = Length
+ofNumber (suc (suc (suc (suc zero)))) = Word
+ofNumber (suc (suc (suc (suc (suc zero))))) = BaseRow
+ofNumber (suc (suc (suc (suc (suc (suc zero)))))) = Diagonals
+ofNumber (suc (suc (suc (suc (suc (suc (suc zero))))))) = Queries
+ofNumber (suc (suc (suc (suc (suc (suc (suc (suc zero)))))))) = NoCodeword
+ofNumber (suc (suc (suc (suc (suc (suc (suc (suc (suc n))))))))) = Clearance
+
+abbrev ofOutcome : Outcome (Unit {0}) → Answer
+ofOutcome (refused n) = Refused (ofNumber n)
+ofOutcome (done a) = Done
+
+of-outcome : (r : Answer) → ofOutcome (outcome r) ≡ r
+of-outcome Done = refl
+of-outcome (Refused Depth) = refl
+of-outcome (Refused Rate) = refl
+of-outcome (Refused Length) = refl
+of-outcome (Refused Word) = refl
+of-outcome (Refused BaseRow) = refl
+of-outcome (Refused Diagonals) = refl
+of-outcome (Refused Queries) = refl
+of-outcome (Refused NoCodeword) = refl
+of-outcome (Refused Clearance) = refl
+
+pub same-answer : (r r' : Answer) → outcome r ≡ outcome r' → r ≡ r'
+same-answer r r' e = sym (of-outcome r) ∙ ap ofOutcome e ∙ of-outcome r'
+
+module _ (d : ℕ) (g t t' b : List ℕ) (k : ℕ) (𝓓 : Decodes d g t t' b k) where
+  -- words whose codeword the block is
+  codeword-of : (m : List ℕ) → length m ≡ 2 ^ d → encode F (lent g t t') d (elements 𝔽₁ m) ≡ elements 𝔽₁ b → Codeword F (lent g t t') d (elements 𝔽₁ b)
+  codeword-of m l e = record { message = elements 𝔽₁ m; sized = length-elements 𝔽₁ m ∙ l ∙ sym (one-mul (2 ^ d)); encodes = e }
+
+  one-message : (m n : List ℕ) → length m ≡ 2 ^ d → length n ≡ 2 ^ d → Low P m → Low P n
+      → encode F (lent g t t') d (elements 𝔽₁ m) ≡ elements 𝔽₁ b → encode F (lent g t t') d (elements 𝔽₁ n) ≡ elements 𝔽₁ b → m ≡ n
+  unfolding codeword-of
+  one-message m n lm ln p q x y =
+      let same = unique-decoded F (lent g t t') 1 _ (decoder g t t' (𝓓 .coding .row) (omega (arith, 𝓓 .narrow)) (𝓓 .unit)) d (𝓓 .coding .legal) (elements 𝔽₁ b) (codeword-of m lm x) (codeword-of n ln y) in
+      sym (words-elements 𝔽₁ m p) ∙ ap (toWords 𝔽₁) same ∙ words-elements 𝔽₁ n q
+
+  settled-message : (old : List ℕ) (r : Answer) (out m : List ℕ) → Settled d g t t' b old r out → length m ≡ 2 ^ d → Low P m → encode F (lent g t t') d (elements 𝔽₁ m) ≡ elements 𝔽₁ b
+      → (outcome r ≡ done tt) × (out ≡ m)
+  settled-message old r out m (message a l p e) lm q f = (a, one-message out m l lm p q e f)
+  settled-message old r out m (none a n s) lm q f = absurd (n (codeword-of m lm f))
+
+  settled-same : (old : List ℕ) (r r' : Answer) (out out' : List ℕ) → Settled d g t t' b old r out → Settled d g t t' b old r' out' → (outcome r ≡ outcome r') × (out ≡ out')
+  settled-same old r r' out out' (message a l p e) s = let x = settled-message old r' out' out s l p e in (a ∙ sym (x .0), sym (x .1))
+  settled-same old r r' out out' (none a n s) (message a' l p e) = absurd (n (codeword-of out' l e))
+  settled-same old r r' out out' (none a n s) (none a' n' s') = (a ∙ sym a', s ∙ sym s')
+
+  settled-exactly : (old : List ℕ) (r : Answer) (out : List ℕ) → Settled d g t t' b old r out → (outcome r ≡ done tt) ↔ Codeword F (lent g t t') d (elements 𝔽₁ b)
+  settled-exactly old r out (message a l p e) = (λ _. codeword-of out l e, λ _. a)
+  settled-exactly old r out (none a n s) = (λ x. absurd (let z : _≡_ {A = ℕ} 0 1 = cc in omega arith), λ w. absurd (n w))
+
+module _ (d c : ℕ) (g t t' b old space : List ℕ) where
+  abbrev Result : Answer → List ℕ → List ℕ → Type 0
+  Result r out work = Decoded d c g t t' b old space r out work
+
+  abbrev judged : Outcome (Unit {0})
+  judged = decoding d c g t t' b (length old) (length space)
+
+  known : judged ≡ done tt → Decodes d g t t' b (length space)
+  known e = decodes d c g t t' b (length old) (length space) e .0
+
+  -- the contract determines the answer, the result and the work buffer
+  pub determined : (r r' : Answer) (out out' work work' : List ℕ) → Result r out work → Result r' out' work' → (r ≡ r') × (out ≡ out') × (work ≡ work')
+  determined r r' out out' work work' (refusal n j a o w) (refusal n' j' a' o' w') = (same-answer r r' (a ∙ sym j ∙ j' ∙ sym a'), o ∙ sym o', w ∙ sym w')
+  determined r r' out out' work work' (refusal n j a o w) (settled j' s' w') = absurd (let z : _≡_ {A = ℕ} 0 1 = cc in omega arith)
+  determined r r' out out' work work' (settled j s w) (refusal n j' a' o' w') = absurd (let z : _≡_ {A = ℕ} 0 1 = cc in omega arith)
+  determined r r' out out' work work' (settled j s w) (settled j' s' w') =
+      let x = settled-same d g t t' b (length space) (known j) old r r' out out' s s' in
+      (same-answer r r' (x .0), x .1, w ∙ sym w')
+
+  module _ (r : Answer) (out work : List ℕ) (j : judged ≡ done tt) where
+    -- where no refusal from 1 to 6 is due, a message is given exactly where the block is a codeword
+    pub exactly : Result r out work → (outcome r ≡ done tt) ↔ Codeword F (lent g t t') d (elements 𝔽₁ b)
+    exactly (refusal n j' a o w) = absurd (let z : _≡_ {A = ℕ} 0 1 = cc in omega arith)
+    exactly (settled j' s w) = settled-exactly d g t t' b (length space) (known j) old r out s
+
+    -- and the message of the block is the result
+    pub gives : (m : List ℕ) → length m ≡ 2 ^ d → Low P m → encode F (lent g t t') d (elements 𝔽₁ m) ≡ elements 𝔽₁ b → Result r out work → (outcome r ≡ done tt) × (out ≡ m)
+    gives m l p e (refusal n j' a o w) = absurd (let z : _≡_ {A = ℕ} 0 1 = cc in omega arith)
+    gives m l p e (settled j' s w) = settled-message d g t t' b (length space) (known j) old r out m s l p e

@@ -1,0 +1,161 @@
+// The message of a codeword.
+ghost use mathlib.Core.Path.{_≡_};
+ghost use mathlib.Core.Bool.{true};
+ghost use Prim.Native.Nat.{_^_};
+ghost use lib.ListN.{length};
+ghost use Rattle.algebra.specs.Words.{𝔽₁};
+ghost use Rattle.algebra.specs.WordLists.{elements, toWords};
+ghost use Rattle.foldable.specs.Code.{encode as codeword};
+ghost use Rattle.job.specs.Outcome.{outcome};
+ghost use Rattle.job.specs.Limits.{depthOk, rateOk};
+ghost use Rattle.residue.specs.Residues.{F};
+ghost use Rattle.code.specs.Lent.{lent};
+ghost use Rattle.decode.specs.Decoding.{decodeLengths, decoding, Settled, Decoded};
+ghost use Rattle.decode.specs.Steps.{allSame, decoded, Decodes};
+use crate::again;
+use crate::message;
+use crate::same;
+use code::parameters;
+use job::Answer;
+use job::Refusal;
+use residue::scan;
+use residue::words;
+
+// Whether the block is the codeword of the only message that it allows.
+fn is_codeword(
+    depth: u32,
+    g: &[u32],
+    t: &[u32],
+    t2: &[u32],
+    block: &[u32],
+    work: &mut [u32],
+) -> bool
+    requires { ⌜ Decodes depth (now g) (now t) (now t2) (now block) (length (now work)) ⌝ }
+    ensures { λ r. ⌜ r ≡ allSame (toWords 𝔽₁ (codeword F (lent (now (g .entry)) (now (t .entry)) (now (t2 .entry))) depth (elements 𝔽₁ (decoded depth (now (g .entry)) (now (t .entry)) (now (t2 .entry)) (now (block .entry)))))) (now (block .entry)) ⌝ }
+{
+    message::message_of(depth, g, t, t2, block, work);
+    again::encode_again(depth, g, t, t2, work);
+    same::same(work, block)
+}
+
+// The message, in out.
+fn give(
+    depth: u32,
+    g: &[u32],
+    t: &[u32],
+    t2: &[u32],
+    block: &[u32],
+    out: &mut [u32],
+    work: &mut [u32],
+)
+    requires { ⌜ (Decodes depth (now g) (now t) (now t2) (now block) (length (now work))) × (length (now out) ≡ 2 ^ depth) ⌝ }
+    ensures { λ _. ⌜ now (out .exit) ≡ decoded depth (now (g .entry)) (now (t .entry)) (now (t2 .entry)) (now (block .entry)) ⌝ }
+{
+    message::message_of(depth, g, t, t2, block, work);
+    let n = out.len();
+    words::copy(&work[..n], out);
+}
+
+// Of exact lengths. The work buffer is cleared by the caller.
+fn settle(
+    depth: u32,
+    g: &[u32],
+    t: &[u32],
+    t2: &[u32],
+    block: &[u32],
+    out: &mut [u32],
+    work: &mut [u32],
+) -> Answer
+    requires { ⌜ (Decodes depth (now g) (now t) (now t2) (now block) (length (now work))) × (length (now out) ≡ 2 ^ depth) ⌝ }
+    ensures { λ r. ⌜ Settled depth (now (g .entry)) (now (t .entry)) (now (t2 .entry)) (now (block .entry)) (now (out .entry)) r (now (out .exit)) ⌝ }
+{
+    if !is_codeword(depth, g, t, t2, block, work) {
+        return Answer::Refused(Refusal::NoCodeword);
+    }
+    give(depth, g, t, t2, block, out, work);
+    Answer::Done
+}
+
+fn lengths_ok(
+    depth: u32,
+    rate: u32,
+    g: usize,
+    t: usize,
+    t2: usize,
+    block: usize,
+    out: usize,
+    work: usize,
+) -> bool
+    requires { ⌜ (depthOk depth ≡ true) × (rateOk rate ≡ true) ⌝ }
+    ensures { λ r. ⌜ r ≡ decodeLengths depth rate g t t2 block out work ⌝ }
+{
+    let n = job::block_len(rate, depth);
+    if !parameters::lengths_ok(depth, rate, g, t, t2) {
+        return false;
+    }
+    if block != n {
+        return false;
+    }
+    if out != job::message_len(depth) {
+        return false;
+    }
+    work == n
+}
+
+fn judge(
+    depth: u32,
+    rate: u32,
+    g: &[u32],
+    t: &[u32],
+    t2: &[u32],
+    block: &[u32],
+    out: usize,
+    work: usize,
+) -> Answer
+    ensures { λ r. ⌜ outcome r ≡ decoding depth rate (now (g .entry)) (now (t .entry)) (now (t2 .entry)) (now (block .entry)) out work ⌝ }
+{
+    let limits = parameters::limits(depth, rate);
+    if let Answer::Refused(r) = limits {
+        return Answer::Refused(r);
+    }
+    if !lengths_ok(
+        depth,
+        rate,
+        g.len(),
+        t.len(),
+        t2.len(),
+        block.len(),
+        out,
+        work,
+    ) {
+        return Answer::Refused(Refusal::Length);
+    }
+    if !parameters::words_ok(g, t, t2) {
+        return Answer::Refused(Refusal::Word);
+    }
+    if !scan::all_below(block) {
+        return Answer::Refused(Refusal::Word);
+    }
+    parameters::legal(g, t, t2)
+}
+
+pub fn decode(
+    depth: u32,
+    rate: u32,
+    g: &[u32],
+    t: &[u32],
+    t2: &[u32],
+    block: &[u32],
+    out: &mut [u32],
+    work: &mut [u32],
+) -> Answer
+    ensures { λ r. ⌜ Decoded depth rate (now (g .entry)) (now (t .entry)) (now (t2 .entry)) (now (block .entry)) (now (out .entry)) (now (work .entry)) r (now (out .exit)) (now (work .exit)) ⌝ }
+{
+    let answer = judge(depth, rate, g, t, t2, block, out.len(), work.len());
+    if let Answer::Done = answer {
+        let settled = settle(depth, g, t, t2, block, out, work);
+        words::clear(work);
+        return settled;
+    }
+    answer
+}

@@ -1,0 +1,68 @@
+// The levels of one column undone, in place. The inverses of the differences stand behind it in the same slice.
+ghost use mathlib.Core.Path.{_≡_};
+ghost use Prim.Native.Nat.{_<_, _≤_};
+ghost use Rattle.job.specs.Limits.{deepest, widest};
+ghost use Rattle.decode.specs.Steps.{Uncrossing, uncrossed, Halved, Undoing, Undone};
+use crate::place;
+
+// At each place the line through the words u and v of the two halves: its value at 0 instead of u, its slope instead of v.
+fn uncross(n: usize, a: usize, c: usize, t: &[u32], w: &mut [u32])
+    requires { ⌜ Uncrossing n a c (now t) (now w) ⌝ }
+    ensures { λ _. ⌜ now (w .exit) ≡ uncrossed n a c (now (t .entry)) (now (w .entry)) ⌝ }
+{
+    let mut i = 0;
+    let mut p = 0;
+    while i < n {
+        let k = n + i;
+        let q = a + i;
+        let u = w[i];
+        let r = place::stretch(w[q], u, w[k]);
+        w[i] = place::less(u, t[p], r);
+        w[k] = r;
+        p += c;
+        i += 1;
+    }
+}
+
+// Half a column of a level, where the level's diagonal begins, and how many inverses stand before its own.
+pub struct Parts {
+    pub half: usize,
+    pub skip: usize,
+    pub off: usize,
+    pub low: u32,
+}
+
+fn halved(depth: u32, c: usize) -> Parts
+    requires { ⌜ (0 < depth) × (depth ≤ deepest) × (c ≤ widest) ⌝ }
+    ensures { λ r. ⌜ Halved depth c (r .half) (r .skip) (r .off) (r .low) ⌝ }
+{
+    let low = depth - 1;
+    let half = job::message_len(low);
+    let skip = half - 1;
+    Parts {
+        half: half,
+        skip: skip,
+        off: c * skip,
+        low: low,
+    }
+}
+
+// x is the inverse of the base row's first word; the inverses of the differences begin at a.
+pub fn undo(depth: u32, a: usize, x: u32, c: usize, t: &[u32], w: &mut [u32])
+    requires { ⌜ Undoing depth a x c (now t) (now w) ⌝ }
+    ensures { λ _. ⌜ Undone depth a x c (now (t .entry)) (now (w .entry)) (now (w .exit)) ⌝ }
+{
+    if depth == 0 {
+        w[0] = place::product(x, w[0]);
+        return;
+    }
+    let p = halved(depth, c);
+    let half = p.half;
+    let off = p.off;
+    let low = p.low;
+    let q = a + p.skip;
+    let b = a - half;
+    uncross(half, q, c, &t[off..], w);
+    undo(low, a, x, c, t, w);
+    undo(low, b, x, c, t, &mut w[half..]);
+}
