@@ -23,21 +23,25 @@ pub fn readings() {
 }
 
 pub fn lengths() {
-    let t = [7i32, -7, 0];
-    let mut m = [0u32; 3];
+    let three = [7i32, -7, 0];
+    let mut m3 = [0u32; 3];
     print::answer(
         b"table of 3 entries:",
-        table::to_coefficients::table_to_coefficients(&t, &mut m),
+        table::to_coefficients::table_to_coefficients(&three, &mut m3),
     );
+    let none = [0i32; 0];
+    let mut m0 = [0u32; 0];
     print::answer(
         b"table of 0 entries:",
-        table::to_coefficients::table_to_coefficients(&t[..0], &mut m[..0]),
+        table::to_coefficients::table_to_coefficients(&none, &mut m0),
     );
+    let one = [7i32];
+    let mut m1 = [0u32; 1];
     print::answer(
         b"table of 1 entry:",
-        table::to_coefficients::table_to_coefficients(&t[..1], &mut m[..1]),
+        table::to_coefficients::table_to_coefficients(&one, &mut m1),
     );
-    print::words(b"message", &m[..1]);
+    print::words(b"message", &m1);
 }
 
 fn range(x: i32) -> job::Answer {

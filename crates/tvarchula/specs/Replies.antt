@@ -7,10 +7,12 @@ use lib.ListN.{length, replicate}
 use Rattle.algebra.specs.Words.{𝔽₁}
 use Rattle.algebra.specs.WordLists.{elements, toWords}
 use Rattle.foldable.specs.Code.{encode}
-use Rattle.job.specs.Outcome.{Outcome, refused, done, kept}
+use Rattle.job.specs.Outcome.{Outcome, refused, done, outcome, kept}
+use Rattle.job.specs.declared.Answer.{Answer}
 use Rattle.residue.specs.Residues.{F}
 use Rattle.code.specs.Lent.{lent}
 use Rattle.code.specs.Encoding.{encoding}
+use Rattle.decode.specs.Decoding.{Decoded}
 use Rattle.fold.specs.Job.{due, foldWords}
 use Rattle.job.specs.Limits.{blockSize}
 use Rattle.polynomial.specs.Evaluation.{evaluation}
@@ -54,6 +56,12 @@ pub record EncodeCall (d c : ℕ) (g t t' m old : List ℕ) (r : Reply) (out : L
 pub record EvaluateCall (d : ℕ) (m z : List ℕ) (old : ℕ) (r : Reply) (value : ℕ) : Type 0 where
   pub answer : r ≡ reply (evaluation d m z)
   pub result : value ≡ given (evaluation d m z) old
+
+-- the reply of some answer with which decoding's contract holds
+pub record DecodeCall (d c : ℕ) (g t t' w old space : List ℕ) (r : Reply) (out work : List ℕ) : Type 0 where
+  pub job : Answer
+  pub answer : r ≡ reply (outcome job)
+  pub result : Decoded d c g t t' w old space job out work
 
 pub record FoldCall (level c : ℕ) (t t' w : List ℕ) (a : ℕ) (old : List ℕ) (r : Reply) (out : List ℕ) : Type 0 where
   pub answer : r ≡ reply (due level c t t' w a (length old))

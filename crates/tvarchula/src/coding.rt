@@ -1,5 +1,5 @@
 // Encoding, decoding and folding.
-ghost use Rattle.tvarchula.specs.Replies.{EncodeCall, FoldCall};
+ghost use Rattle.tvarchula.specs.Replies.{EncodeCall, DecodeCall, FoldCall};
 use crate::answer;
 use crate::answer::Reply;
 use code::encode;
@@ -17,6 +17,22 @@ pub extern "C" fn tv_encode(
     ensures { λ r. ⌜ EncodeCall depth rate (now (g .entry)) (now (t .entry)) (now (t2 .entry)) (now (message .entry)) (now (block .entry)) r (now (block .exit)) ⌝ }
 {
     answer::plain(encode::encode(depth, rate, g, t, t2, message, block))
+}
+
+#[no_mangle]
+pub extern "C" fn tv_decode(
+    depth: u32,
+    rate: u32,
+    g: &[u32],
+    t: &[u32],
+    t2: &[u32],
+    block: &[u32],
+    message: &mut [u32],
+    work: &mut [u32],
+) -> Reply
+    ensures { λ r. ⌜ DecodeCall depth rate (now (g .entry)) (now (t .entry)) (now (t2 .entry)) (now (block .entry)) (now (message .entry)) (now (work .entry)) r (now (message .exit)) (now (work .exit)) ⌝ }
+{
+    answer::plain(decode::decode::decode(depth, rate, g, t, t2, block, message, work))
 }
 
 #[no_mangle]
