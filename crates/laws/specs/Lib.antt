@@ -1,5 +1,7 @@
 -- What the jobs promise together, over the definitions that their contracts cite.
 --     Calls      which row and diagonals are legal; what encoding and folding write
 --     Folds      fold-law, two-challenge-law
+--     Openings   opening-accepted, opening-fails
 pub mod Calls
 pub mod Folds
+pub mod Openings

@@ -1,5 +1,4 @@
 // Encoding, folding and decoding at rate 2 with the diagonals [2, 3] and their opposites.
-use crate::print;
 
 pub fn encodings() {
     let g = [1u32, 1];

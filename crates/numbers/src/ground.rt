@@ -1,5 +1,4 @@
 // Clearances, tables and evaluation.
-use crate::print;
 use polynomial::Evaluation;
 use table::reading::Reading;
 

@@ -7,13 +7,15 @@ use lib.ListN.{length, replicate}
 use Rattle.algebra.specs.Words.{𝔽₁}
 use Rattle.algebra.specs.WordLists.{elements, toWords}
 use Rattle.foldable.specs.Code.{encode}
-use Rattle.job.specs.Outcome.{Outcome, refused, done, outcome, kept}
+use Rattle.job.specs.Outcome.{Outcome, refused, done, outcome, kept, _⨾_}
 use Rattle.job.specs.declared.Answer.{Answer}
 use Rattle.residue.specs.Residues.{F}
 use Rattle.code.specs.Lent.{lent}
 use Rattle.code.specs.Encoding.{encoding}
 use Rattle.decode.specs.Decoding.{Decoded}
 use Rattle.fold.specs.Job.{due, foldWords}
+use Rattle.open.specs.Writing.{judged, valueWord, openingWords}
+use Rattle.verify.specs.Verdicts.{Numbers}
 use Rattle.job.specs.Limits.{blockSize}
 use Rattle.polynomial.specs.Evaluation.{evaluation}
 use Rattle.table.specs.Clearances.{Meaning, free, overlap}
@@ -66,3 +68,13 @@ pub record DecodeCall (d c : ℕ) (g t t' w old space : List ℕ) (r : Reply) (o
 pub record FoldCall (level c : ℕ) (t t' w : List ℕ) (a : ℕ) (old : List ℕ) (r : Reply) (out : List ℕ) : Type 0 where
   pub answer : r ≡ reply (due level c t t' w a (length old))
   pub result : out ≡ kept (due level c t t' w a (length old)) old (foldWords (blockSize c (level - 1)) t t' w a)
+
+-- a verdict's number and places
+abbrev pub triple : Numbers → Reply
+triple n = record { number = n .0; first = n .1; second = n .2 }
+
+pub record WriteCall (d c : ℕ) (g t t' m z r old space : List ℕ) (value : ℕ) (a : Reply) (out work : List ℕ) (value' : ℕ) : Type 0 where
+  pub answer : a ≡ reply (judged d c g t t' m z r (length old) (length space) ⨾ done (valueWord m z))
+  pub single : value' ≡ given (judged d c g t t' m z r (length old) (length space) ⨾ done (valueWord m z)) value
+  pub result : out ≡ kept (judged d c g t t' m z r (length old) (length space)) old (openingWords g t t' m z r)
+  pub cleared : work ≡ kept (judged d c g t t' m z r (length old) (length space)) space (replicate (length space) 0)

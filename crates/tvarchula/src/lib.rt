@@ -3,3 +3,4 @@
 pub mod answer;
 pub mod coding;
 pub mod ground;
+pub mod opening;

@@ -1,8 +1,8 @@
 use Prim.Native.Nat.{_≤_, _-_}
 use lib.ListN.{length}
 use borrow.Author.Needs.{needs}
-use Rattle.numbers.proofs.print.words.Statement.{statement}
-use Rattle.numbers.proofs.print.words.Tie as tie
+use Rattle.print.proofs.words.Statement.{statement}
+use Rattle.print.proofs.words.Tie as tie
 
 abbrev Inv-loop : tie.InvT-loop
 Inv-loop text s i₀ i = i ≤ length s

@@ -1,0 +1,25 @@
+-- `open::judge::inputs_ok` meets its contract. Assumes nothing.
+use mathlib.Core.Path.{sym}
+use borrow.Author.Tests.{eq-eqb, ne-eqb}
+use Rattle.open.specs.Writing.{inputLengths}
+use borrow.Author.Needs.{needs}
+use Rattle.open.proofs.judge.inputs_ok.Statement.{statement}
+use Rattle.open.proofs.judge.inputs_ok.Tie as tie
+
+message-len-requires : tie.Need-message-len-requires
+message-len-requires c κs = search needs
+
+returns : tie.Need-returns
+unfolding inputLengths
+returns c = sym (rw (← (c .before .message-len .ensures), ne-eqb _ _ (c .if1 .taken)))
+
+returns-2 : tie.Need-returns-2
+unfolding inputLengths
+returns-2 c = sym (rw (← (c .before .before .message-len .ensures), eq-eqb _ _ (c .before .if1 .left), ne-eqb _ _ (c .if2 .taken)))
+
+returns-3 : tie.Need-returns-3
+unfolding inputLengths
+returns-3 c = sym (rw (← (c .before .before .message-len .ensures), eq-eqb _ _ (c .before .if1 .left), eq-eqb _ _ (c .if2 .left)))
+
+pub inputs-ok-spec : {M : Type 1} → statement M
+inputs-ok-spec = tie.close (tie.spec message-len-requires returns returns-2 returns-3)

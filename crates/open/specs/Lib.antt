@@ -1,0 +1,7 @@
+-- Writing an opening.
+--     Writing     the job: judged, Wrote
+--     Steps       what the steps are lent and what they leave
+--     Laws        h from what is left of the message
+pub mod Writing
+pub mod Steps
+pub mod Laws

@@ -1,0 +1,79 @@
+-- The job of writing an opening: its answer, its result and its work buffer, for every input. Assumes nothing.
+use mathlib.Core.Path.{_≡_}
+use mathlib.Core.Bool.{Bool, _&&_}
+use mathlib.Core.List.{List}
+use Prim.Native.Nat.{ℕ, _*_, _^_, _≤_}
+use lib.Dec.{eqb}
+use lib.ListN.{length, replicate}
+use Rattle.algebra.specs.Words.{𝔽₁}
+use Rattle.algebra.specs.WordLists.{Low, elements, toWords}
+use Rattle.basefold.specs.Layout.{openingSize}
+use Rattle.basefold.specs.Written.{opening}
+use Rattle.job.specs.Outcome.{Outcome, refused, done, number, require, _⨾_, kept}
+use Rattle.job.specs.Limits.{deepest, widest}
+use Rattle.multilinear.specs.Polynomial.{poly}
+use Rattle.residue.specs.Residues.{P, F, K, word}
+use Rattle.residue.specs.Scans.{allBelow}
+use Rattle.code.specs.Lent.{lent, Coding}
+use Rattle.code.specs.Parameters.{limits, rowLengths, rowWords, legalRow}
+use Rattle.open.specs.declared.Written.{Written}
+use Rattle.open.specs.declared.Written.the-variants.{Value, Refused}
+
+-- what an answer says: the value's word, or the refusal's number
+abbrev pub outcome : Written → Outcome ℕ
+outcome (Value v) = done v
+outcome (Refused r) = refused (number r)
+
+-- of the lengths of message, point and challenges
+unfoldable pub inputLengths : ℕ → ℕ → ℕ → ℕ → Bool
+inputLengths d m z r = eqb m (2 ^ d) && (eqb z d && eqb r d)
+
+-- of the lengths of opening and work
+unfoldable pub bufferLengths : ℕ → ℕ → ℕ → ℕ → Bool
+bufferLengths d c o s = eqb o (openingSize c 0 d) && eqb s (2 * 2 ^ d)
+
+unfoldable pub writeLengths : ℕ → ℕ → ℕ → ℕ → ℕ → ℕ → ℕ → ℕ → ℕ → ℕ → Bool
+writeLengths d c g t t' m z r o s = rowLengths d c g t t' && (inputLengths d m z r && bufferLengths d c o s)
+
+unfoldable pub inputWords : List ℕ → List ℕ → List ℕ → Bool
+inputWords m z r = allBelow m && (allBelow z && allBelow r)
+
+-- the tests in their order, with an opening of o words and a work buffer of s
+unfoldable pub judged : ℕ → ℕ → List ℕ → List ℕ → List ℕ → List ℕ → List ℕ → List ℕ → ℕ → ℕ → Outcome (Unit {0})
+judged d c g t t' m z r o s =
+    limits d c
+    ⨾ require (writeLengths d c (length g) (length t) (length t') (length m) (length z) (length r) o s) 3
+    ⨾ require (rowWords g t t' && inputWords m z r) 4 ⨾ legalRow g t t'
+
+-- the words of f(z), and of the opening
+abbrev pub valueWord : List ℕ → List ℕ → ℕ
+valueWord m z = word (poly K (elements 𝔽₁ m) (elements 𝔽₁ z))
+
+abbrev pub openingWords : List ℕ → List ℕ → List ℕ → List ℕ → List ℕ → List ℕ → List ℕ
+openingWords g t t' m z r = toWords 𝔽₁ (opening F 0 (lent g t t') (elements 𝔽₁ m) (elements 𝔽₁ z) (elements 𝔽₁ r))
+
+-- answer a, opening o' and work s': refused as above, and both as they were; or f(z), the opening as it is defined, and zeros
+pub record Wrote (d c : ℕ) (g t t' m z r o s : List ℕ) (a : Written) (o' s' : List ℕ) : Type 0 where
+  pub answer : outcome a ≡ judged d c g t t' m z r (length o) (length s) ⨾ done (valueWord m z)
+  pub result : o' ≡ kept (judged d c g t t' m z r (length o) (length s)) o (openingWords g t t' m z r)
+  pub work : s' ≡ kept (judged d c g t t' m z r (length o) (length s)) s (replicate (length s) 0)
+
+-- what the work is lent: exact lengths, words below the modulus, a legal row and diagonals
+pub record Writes (d : ℕ) (g t t' m z r : List ℕ) (o s : ℕ) : Type 0 where
+  pub deep : d ≤ deepest
+  pub wide : length g ≤ widest
+  pub coding : Coding d g t t'
+  pub message : length m ≡ 2 ^ d
+  pub point : length z ≡ d
+  pub challenges : length r ≡ d
+  pub message-low : Low P m
+  pub point-low : Low P z
+  pub challenges-low : Low P r
+  pub opens : o ≡ openingSize (length g) 0 d
+  pub room : s ≡ 2 * 2 ^ d
+
+-- and what it leaves: the value v, the opening o' and the work s' of n words
+pub record Works (g t t' m z r : List ℕ) (n v : ℕ) (o' s' : List ℕ) : Type 0 where
+  pub value : v ≡ valueWord m z
+  pub opened : o' ≡ openingWords g t t' m z r
+  pub cleared : s' ≡ replicate n 0

@@ -1,0 +1,113 @@
+// What the job judges, in the order of the refusals.
+ghost use mathlib.Core.Path.{_≡_};
+ghost use mathlib.Core.Bool.{true};
+ghost use Rattle.job.specs.Outcome.{outcome};
+ghost use Rattle.job.specs.Limits.{depthOk, rateOk};
+ghost use Rattle.open.specs.Writing.{inputLengths, bufferLengths, writeLengths, inputWords, judged};
+use code::parameters;
+use job::Answer;
+use job::Refusal;
+use residue::scan;
+
+// Of the lengths of message, point and challenges.
+fn inputs_ok(depth: u32, m: usize, z: usize, r: usize) -> bool
+    requires { ⌜ depthOk depth ≡ true ⌝ }
+    ensures { λ b. ⌜ b ≡ inputLengths depth m z r ⌝ }
+{
+    if m != job::message_len(depth) {
+        return false;
+    }
+    if z != depth as usize {
+        return false;
+    }
+    r == depth as usize
+}
+
+// Of the lengths of opening and work.
+fn buffers_ok(depth: u32, rate: u32, o: usize, s: usize) -> bool
+    requires { ⌜ (depthOk depth ≡ true) × (rateOk rate ≡ true) ⌝ }
+    ensures { λ b. ⌜ b ≡ bufferLengths depth rate o s ⌝ }
+{
+    let n = 3 * (depth as usize) + 1 + job::diagonals_len(rate, depth);
+    if o != n {
+        return false;
+    }
+    s == 2 * job::message_len(depth)
+}
+
+fn lengths_ok(
+    depth: u32,
+    rate: u32,
+    g: usize,
+    t: usize,
+    t2: usize,
+    m: usize,
+    z: usize,
+    r: usize,
+    o: usize,
+    s: usize,
+) -> bool
+    requires { ⌜ (depthOk depth ≡ true) × (rateOk rate ≡ true) ⌝ }
+    ensures { λ b. ⌜ b ≡ writeLengths depth rate g t t2 m z r o s ⌝ }
+{
+    if !parameters::lengths_ok(depth, rate, g, t, t2) {
+        return false;
+    }
+    if !inputs_ok(depth, m, z, r) {
+        return false;
+    }
+    buffers_ok(depth, rate, o, s)
+}
+
+fn words_ok(m: &[u32], z: &[u32], r: &[u32]) -> bool
+    ensures { λ b. ⌜ b ≡ inputWords (now (m .entry)) (now (z .entry)) (now (r .entry)) ⌝ }
+{
+    if !scan::all_below(m) {
+        return false;
+    }
+    if !scan::all_below(z) {
+        return false;
+    }
+    scan::all_below(r)
+}
+
+pub fn judge(
+    depth: u32,
+    rate: u32,
+    g: &[u32],
+    t: &[u32],
+    t2: &[u32],
+    m: &[u32],
+    z: &[u32],
+    r: &[u32],
+    o: usize,
+    s: usize,
+) -> Answer
+    ensures { λ a. ⌜ outcome a ≡ judged depth rate (now (g .entry)) (now (t .entry)) (now (t2 .entry)) (now (m .entry)) (now (z .entry)) (now (r .entry)) o s ⌝ }
+{
+    let limits = parameters::limits(depth, rate);
+    if let Answer::Refused(n) = limits {
+        return Answer::Refused(n);
+    }
+    if !lengths_ok(
+        depth,
+        rate,
+        g.len(),
+        t.len(),
+        t2.len(),
+        m.len(),
+        z.len(),
+        r.len(),
+        o,
+        s,
+    ) {
+        return Answer::Refused(Refusal::Length);
+    }
+    if !parameters::words_ok(g, t, t2) {
+        return Answer::Refused(Refusal::Word);
+    }
+    if !words_ok(m, z, r) {
+        return Answer::Refused(Refusal::Word);
+    }
+    parameters::legal(g, t, t2)
+}

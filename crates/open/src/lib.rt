@@ -1,0 +1,71 @@
+// Writing an opening.
+ghost use lib.ListN.{length};
+ghost use Rattle.open.specs.Writing.{Writes, Works, Wrote};
+use job::Answer;
+use job::Refusal;
+use residue::words;
+
+pub mod judge;
+pub mod rounds;
+pub mod steps;
+
+// The polynomial's value at the point.
+pub enum Written {
+    Value(u32),
+    Refused(Refusal),
+}
+
+// Of exact lengths.
+fn write_words(
+    depth: u32,
+    g: &[u32],
+    t: &[u32],
+    t2: &[u32],
+    message: &[u32],
+    z: &[u32],
+    r: &[u32],
+    opening: &mut [u32],
+    work: &mut [u32],
+) -> u32
+    requires { ⌜ Writes depth (now g) (now t) (now t2) (now message) (now z) (now r) (length (now opening)) (length (now work)) ⌝ }
+    ensures { λ v. ⌜ Works (now (g .entry)) (now (t .entry)) (now (t2 .entry)) (now (message .entry)) (now (z .entry)) (now (r .entry)) (length (now (work .entry))) v (now (opening .exit)) (now (work .exit)) ⌝ }
+{
+    let v = polynomial::value(message, z);
+    steps::begin(message, work);
+    rounds::rounds(depth, g, t, t2, z, r, opening, work);
+    steps::give_final(depth, opening, work);
+    words::clear(work);
+    v
+}
+
+pub fn write_opening(
+    depth: u32,
+    rate: u32,
+    g: &[u32],
+    t: &[u32],
+    t2: &[u32],
+    message: &[u32],
+    z: &[u32],
+    r: &[u32],
+    opening: &mut [u32],
+    work: &mut [u32],
+) -> Written
+    ensures { λ a. ⌜ Wrote depth rate (now (g .entry)) (now (t .entry)) (now (t2 .entry)) (now (message .entry)) (now (z .entry)) (now (r .entry)) (now (opening .entry)) (now (work .entry)) a (now (opening .exit)) (now (work .exit)) ⌝ }
+{
+    let answer = judge::judge(
+        depth,
+        rate,
+        g,
+        t,
+        t2,
+        message,
+        z,
+        r,
+        opening.len(),
+        work.len(),
+    );
+    match answer {
+        Answer::Done => Written::Value(write_words(depth, g, t, t2, message, z, r, opening, work)),
+        Answer::Refused(n) => Written::Refused(n),
+    }
+}

@@ -1,0 +1,48 @@
+-- The job of verifying: what is refused, and the first check that fails. Definitions only. Assumes nothing.
+use mathlib.Core.Bool.{Bool, _&&_}
+use mathlib.Core.List.{List}
+use mathlib.Core.Option.{Option}
+use Prim.Native.Nat.{ℕ, zero, suc}
+use lib.Dec.{eqb, leb, ltb}
+use lib.ListN.{length}
+use Rattle.algebra.specs.Tests.{all}
+use Rattle.algebra.specs.Words.{𝔽₁}
+use Rattle.algebra.specs.WordLists.{elements}
+use Rattle.basefold.specs.Layout.{openingSize}
+use Rattle.basefold.specs.Checks.{Check, firstFailure, checks}
+use Rattle.job.specs.Outcome.{Outcome, done, require, _⨾_}
+use Rattle.job.specs.Limits.{blockSize}
+use Rattle.residue.specs.Residues.{P, F, el}
+use Rattle.residue.specs.Scans.{allBelow}
+use Rattle.code.specs.Lent.{lent}
+use Rattle.code.specs.Parameters.{limits, rowLengths, rowWords, legalRow}
+
+-- the most queries
+abbrev pub most : ℕ
+most = 256
+
+-- of the lengths of g, T, T', block, z, r and opening, at depth d and rate c
+unfoldable pub openedLengths : ℕ → ℕ → ℕ → ℕ → ℕ → ℕ → ℕ → ℕ → ℕ → Bool
+openedLengths d c g t t' w z r o =
+    rowLengths d c g t t' && (eqb w (blockSize c d) && (eqb z d && (eqb r d && eqb o (openingSize c 0 d))))
+
+unfoldable pub openedWords : (g t t' w z : List ℕ) (y : ℕ) (r o : List ℕ) → Bool
+openedWords g t t' w z y r o = rowWords g t t' && (allBelow w && (allBelow z && (ltb y P && (allBelow r && allBelow o))))
+
+-- at depth 0 no query; above, from 1 to the most, each a place of the block below the top one
+unfoldable pub queriesOk : ℕ → ℕ → List ℕ → Bool
+queriesOk zero c us = eqb (length us) 0
+queriesOk (suc i) c us = leb 1 (length us) && (leb (length us) most && all (λ u. ltb u (blockSize c i)) us)
+
+-- the refusals, in their order
+unfoldable pub judgement : (d c : ℕ) (g t t' w z : List ℕ) (y : ℕ) (r us o : List ℕ) → Outcome (Unit {0})
+judgement d c g t t' w z y r us o =
+    limits d c
+    ⨾ require (openedLengths d c (length g) (length t) (length t') (length w) (length z) (length r) (length o)) 3
+    ⨾ require (openedWords g t t' w z y r o) 4 ⨾ legalRow g t t' ⨾ require (queriesOk d c us) 7
+
+-- a refusal, or the first check that fails, or none
+unfoldable pub verification : (d c : ℕ) (g t t' w z : List ℕ) (y : ℕ) (r us o : List ℕ) → Outcome (Option Check)
+verification d c g t t' w z y r us o =
+    judgement d c g t t' w z y r us o
+    ⨾ done (firstFailure (checks F 0 (lent g t t') (elements 𝔽₁ w) (elements 𝔽₁ z) (el y) (elements 𝔽₁ r) us (elements 𝔽₁ o)))
