@@ -4,8 +4,8 @@ use mathlib.Core.Path.{_≡_, refl, sym, ap, ap₂, _∙_}
 use mathlib.Core.Bool.{Bool, true, _&&_}
 use mathlib.Core.List.{List, [], _∷_}
 use mathlib.Core.Option.{Option, none, some}
-use Prim.Native.Nat.{ℕ, zero, suc, _*_, _^_, _<_}
-use native.Mathlib.Nat.{one-mul}
+use Prim.Native.Nat.{ℕ, zero, suc, _+_, _*_, _^_, _<_}
+use native.Mathlib.Nat.{one-mul, zero-add}
 use native.Mathlib.Omega.{arith}
 use lib.Dec.{eqb, leb, ltb}
 use lib.ListN.{length}
@@ -29,7 +29,7 @@ use Rattle.code.specs.Lent.{lent, Coding}
 use Rattle.code.specs.Parameters.{limits, rowLengths, rowWords, legalRow}
 use Rattle.open.specs.Laws.{length-opening}
 use Rattle.verify.specs.Verdicts.{Numbers, numbersOf}
-use Rattle.verify.specs.Verifying.{openedLengths, openedWords, queriesOk, judgement, verification}
+use Rattle.verify.specs.Verifying.{most, openedLengths, openedWords, queriesOk, judgement, verification}
 use Rattle.laws.specs.Calls.{LegalRow, coding-of, lengths-of, encoded}
 
 -- what writing an opening writes, and the value that it returns
@@ -59,7 +59,9 @@ no-queries n (u ∷ us) e = absurd (omega arith)
 legal-queries : (n d c : ℕ) (us : List ℕ) → n ≡ c → queriesOk d c us ≡ true → Queries n d us
 unfolding queriesOk
 legal-queries n zero c us e h = no-queries n us (eqb-true _ _ h)
-legal-queries n (suc i) c us e h = all-queries n c i us e (and-both _ _ (and-both (leb 1 (length us)) _ h .1) .1)
+legal-queries n (suc i) c us e h =
+    let some = and-both (leb 1 (length us)) (leb (length us) most && all (λ u. ltb u (blockSize c i)) us) h in
+    all-queries n c i us e (and-both (leb (length us) most) (all (λ u. ltb u (blockSize c i)) us) (some .1) .1)
 
 module _ (d c : ℕ) (g t t' : List ℕ) (𝓡 : LegalRow d c g t t') (m z r us : List ℕ) (lm : length m ≡ 2 ^ d) (lz : length z ≡ d) (lr : length r ≡ d)
     (low-z : Low P z) (low-r : Low P r) (legal-us : queriesOk d c us ≡ true) where
@@ -124,8 +126,8 @@ module _ (d c : ℕ) (g t t' : List ℕ) (𝓡 : LegalRow d c g t t') (m z r us 
   sized : length (elements 𝔽₁ m) ≡ dim F (lent g t t') (length (elements 𝔽₁ r))
   sized = length-elements 𝔽₁ m ∙ lm ∙ ap (λ k. 2 ^ k) (sym depth) ∙ sym (one-mul (2 ^ length (elements 𝔽₁ r)))
 
-  sized-z : length (elements 𝔽₁ z) ≡ length (elements 𝔽₁ r)
-  sized-z = length-elements 𝔽₁ z ∙ lz ∙ sym depth
+  sized-z : length (elements 𝔽₁ z) ≡ 0 + length (elements 𝔽₁ r)
+  sized-z = length-elements 𝔽₁ z ∙ lz ∙ sym depth ∙ sym (zero-add (length (elements 𝔽₁ r)))
 
   -- with f(z) it is accepted
   pub opening-accepted : (y : ℕ) → y ≡ valueAt m z → numbersOf (verification d c g t t' w z y r us o) ≡ (0, 0, 0)
@@ -133,14 +135,14 @@ module _ (d c : ℕ) (g t t' : List ℕ) (𝓡 : LegalRow d c g t t') (m z r us 
       let h : y < P = rw e (𝔽₁ .words .val-lt _) in
       ap numbersOf
       (judged y h none
-      (honest-accepted F 0 (lent g t t') _ _ _ legal refl sized two₁ (sized-z ∙ omega arith) us queries (el y) (ap el e ∙ 𝔽₁ .words .el-val _)))
+      (honest-accepted F 0 (lent g t t') (elements 𝔽₁ m) (elements 𝔽₁ z) (elements 𝔽₁ r) legal refl sized two₁ sized-z us queries (el y) (ap el e ∙ 𝔽₁ .words .el-val _)))
 
   -- with any other value the first check fails
   pub opening-fails : (y : ℕ) → y < P → (y ≡ valueAt m z → ⊥) → numbersOf (verification d c g t t' w z y r us o) ≡ failed d
   opening-fails y h n =
       ap numbersOf
       (judged y h (some (firstCheck (length (elements 𝔽₁ r))))
-      (honest-fails F 0 (lent g t t') _ _ _ legal refl sized two₁ (sized-z ∙ omega arith) us (el y)
+      (honest-fails F 0 (lent g t t') (elements 𝔽₁ m) (elements 𝔽₁ z) (elements 𝔽₁ r) legal refl sized two₁ sized-z us (el y)
       (λ q. n (sym (𝔽₁ .words .val-el y h) ∙ ap word q))))
       ∙ ap (λ k. numbersOf (done (some (firstCheck k)))) depth ∙ number d
     where
