@@ -28,7 +28,8 @@ use Rattle.residue.specs.Scans.{is-low}
 use Rattle.open.specs.Laws.{length-opening, h-left}
 use Rattle.open.specs.Steps.{alike, values, roundOf, put, leftOf, sentWords, blockWords, Running, Ran}
 use Rattle.open.specs.Writing.{openingWords, Writes}
-use Rattle.open.proofs.Places.{block-end, block-within, length-leftOf, front-is}
+use Rattle.open.proofs.Places.{block-end, block-within}
+use Rattle.open.proofs.Takes.{length-leftOf, front-is}
 use Rattle.open.proofs.Puts.{Agrees, agrees-none, agrees-below, agrees-above, agrees-more, length-put}
 use Rattle.open.proofs.Sends.{element-is}
 

@@ -1,26 +1,23 @@
--- Where the blocks of an opening stand, and what its parts are lent. Assumes nothing.
+-- Where h and the blocks stand in an opening, and what is lent to write them. Assumes nothing.
 use mathlib.Core.Path.{_≡_, refl, sym, ap, ap₂, _∙_}
-use mathlib.Core.List.{List, _++_, append-assoc}
-use Prim.Native.Nat.{ℕ, suc, _+_, _*_, _-_, _/_, _^_, _<_, _≤_}
+use mathlib.Core.List.{List}
+use Prim.Native.Nat.{ℕ, suc, _+_, _*_, _-_, _^_, _<_, _≤_}
 use native.Mathlib.Nat.{mul-add, mul-le-mul-left, two-pow-succ, add-assoc}
 use native.Mathlib.Numerals.{add-one}
 use native.Mathlib.Omega.{arith}
-use lib.ListN.{length, take, drop, getD, length-take, length-drop, take-append-drop}
+use lib.ListN.{length, take, drop, length-take, length-drop}
 use lib.Pow.{pow-mono, pow-pos}
-use lib.Seq.{take-at, drop-append-le}
 use borrow.Rule.Slice.PartMut.{putMid}
-use Rattle.algebra.specs.Vector.{length-mix}
 use Rattle.algebra.specs.Words.{𝔽₁}
-use Rattle.algebra.specs.WordLists.{low-take, low-words, elements, toWords, elements-words, length-words, length-elements}
+use Rattle.algebra.specs.WordLists.{low-take, elements, toWords, length-words, length-elements}
 use Rattle.basefold.specs.Descent.{legal-at}
 use Rattle.basefold.specs.Layout.{roundAt, blockAt, openingSize}
 use Rattle.code.specs.Encoding.{Encodes}
 use Rattle.code.specs.Lent.{lent, Coding, diagonals-mono}
 use Rattle.foldable.specs.Encode.{length-encode}
 use Rattle.job.specs.Limits.{deepest, widest, blockSize, diagonalsSize, power-most, product-most}
-use Rattle.multilinear.specs.Folding.{foldMessage}
-use Rattle.residue.specs.Residues.{F, K, el}
-use Rattle.open.specs.Steps.{values, roundOf, put, Sending, Giving, sentWords, Folding, folding, Above, Taking, Taken, leftOf, Placing, Blocking, blockWords, Running, Ran}
+use Rattle.residue.specs.Residues.{F, el}
+use Rattle.open.specs.Steps.{values, roundOf, put, Sending, Giving, sentWords, Placing, Blocking, blockWords}
 use Rattle.open.proofs.Puts.{put-mid}
 
 -- a block ends where the next one begins, within the opening
@@ -99,7 +96,7 @@ module _ (d i w : ℕ) (z o s : List ℕ) (𝓖 : Giving d i w z (length o) s) (
   power : n ≡ 2 ^ suc i
   power = p ∙ ap (λ k. 2 ^ k) (add-one i)
 
-  pub spot-within : 3 * (d - (i + 1)) + 3 ≤ length o
+  spot-within : 3 * (d - (i + 1)) + 3 ≤ length o
   spot-within = omega (arith, 𝓖 .level, 𝓖 .size)
 
   pub n-within : n ≤ length s
@@ -131,67 +128,3 @@ module _ (d i w : ℕ) (z o s : List ℕ) (𝓖 : Giving d i w z (length o) s) (
 
 pub diagonals-most : (c d : ℕ) → c ≤ widest → d ≤ deepest → diagonalsSize c d ≤ 1048576
 diagonals-most c d h l = product-most c (2 ^ d - 1) h (omega (arith, power-most d l))
-
--- what is folded
-module _ (i w : ℕ) (z r s : List ℕ) (𝓣 : Taking i w z r s) (n : ℕ) (p : n ≡ 2 ^ (i + 1)) where
-  whole : n ≡ 2 ^ suc i
-  whole = p ∙ ap (λ k. 2 ^ k) (add-one i)
-
-  pub whole-within : n ≤ length s
-  whole-within = omega (arith, whole, 𝓣 .above .room)
-
-  sized : length (take n s) ≡ n
-  sized = length-take n s ∙ omega (arith, whole-within)
-
-  half : length (take n s) / 2 ≡ 2 ^ i
-  half = omega (arith, sized, whole, two-pow-succ i)
-
-  pub folds : Folding (getD r i 0) (take n s)
-  folds =
-      record {
-        challenge = 𝓣 .low' .low i (𝓣 .challenge);
-        message = rw whole (𝓣 .above .low);
-        even = omega (arith, sized, whole, two-pow-succ i);
-      }
-
-  pub folded : (m : List ℕ) → m ≡ folding (el (getD r i 0)) (take n s) → m ++ drop n s ≡ toWords 𝔽₁ (leftOf i (getD r i 0) s) ++ drop (2 ^ i) s
-  unfolding folding
-  folded m e =
-      let a = getD r i 0 in
-      ap (λ v. v ++ drop n s) e
-      ∙ append-assoc (toWords 𝔽₁ (foldMessage K (length (take n s) / 2) (el a) (elements 𝔽₁ (take n s)))) (drop (length (take n s) / 2) (take n s)) (drop n s)
-      ∙ ap₂ (λ k j. toWords 𝔽₁ (foldMessage K k (el a) (elements 𝔽₁ (take j s))) ++ (drop k (take n s) ++ drop n s)) half whole
-      ∙ ap (λ v. toWords 𝔽₁ (leftOf i a s) ++ v)
-      (sym (drop-append-le (2 ^ i) (take n s) (drop n s) (omega (arith, sized, whole, two-pow-succ i))) ∙ ap (drop (2 ^ i)) (take-append-drop n s))
-
--- what is left then
-pub length-leftOf : (i a : ℕ) (s : List ℕ) → Above i s → length (toWords 𝔽₁ (leftOf i a s)) ≡ 2 ^ i
-length-leftOf i a s 𝓐 =
-    let E = elements 𝔽₁ (take (2 ^ suc i) s) in
-    let n : length E ≡ 2 ^ i + 2 ^ i = length-elements 𝔽₁ _ ∙ length-take (2 ^ suc i) s ∙ omega (arith, 𝓐 .room, two-pow-succ i) in
-    length-words 𝔽₁ _
-    ∙ length-mix K (2 ^ i) (take (2 ^ i) E) (el a) (drop (2 ^ i) E) (length-take (2 ^ i) E ∙ omega arith) (length-drop (2 ^ i) E ∙ omega arith)
-
-module _ (i w : ℕ) (z r s : List ℕ) (𝓐 : Above i s) (v : ℕ) (s' : List ℕ) (𝓣 : Taken i w z r s v s') where
-  pub front-is : take (2 ^ i) s' ≡ toWords 𝔽₁ (leftOf i (getD r i 0) s)
-  front-is = ap (take (2 ^ i)) (𝓣 .left) ∙ take-at _ (drop (2 ^ i) s) (2 ^ i) (length-leftOf i (getD r i 0) s 𝓐)
-
-  pub goes-on : (d : ℕ) (g t t' y u : List ℕ) (n k : ℕ) → Running d i w g t t' y u n s → k ≡ n → Blocking d i g t t' k s'
-  goes-on d g t t' y u n k 𝓡 e =
-      record {
-        level = 𝓡 .level;
-        deep = 𝓡 .deep;
-        wide = 𝓡 .wide;
-        coding = 𝓡 .coding;
-        size = e ∙ 𝓡 .size;
-        room = omega (arith, ap length front-is ∙ length-leftOf i (getD r i 0) s 𝓐, length-take (2 ^ i) s');
-        low = rw front-is (low-words 𝔽₁ _);
-      }
-
-  pub ran : (d : ℕ) (g t t' o o₁ o' : List ℕ) → o₁ ≡ put (roundAt d (suc i)) (sentWords i w z s) o
-      → o' ≡ put (blockAt (length g) 0 d i) (blockWords i g t t' (elements 𝔽₁ (take (2 ^ i) s'))) o₁ → Ran d i w g t t' z r o s v o' s'
-  ran d g t t' o o₁ o' p q =
-      record {
-        taken = 𝓣;
-        opened = q ∙ ap₂ (λ M x. put (blockAt (length g) 0 d i) (blockWords i g t t' M) x) (ap (elements 𝔽₁) front-is ∙ elements-words 𝔽₁ _) p;
-      }

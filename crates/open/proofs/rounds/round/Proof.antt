@@ -1,5 +1,5 @@
 -- `open::rounds::round` meets its contract. Assumes nothing.
-use Rattle.open.proofs.Places.{goes-on, ran}
+use Rattle.open.proofs.Takes.{goes-on, ran}
 use borrow.Author.Needs.{needs}
 use Rattle.open.proofs.rounds.round.Statement.{statement}
 use Rattle.open.proofs.rounds.round.Tie as tie

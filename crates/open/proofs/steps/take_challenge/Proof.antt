@@ -1,7 +1,7 @@
 -- `open::steps::take_challenge` meets its contract. Assumes nothing.
 use native.Mathlib.Omega.{arith}
 use lib.ListN.{length-take}
-use Rattle.open.proofs.Places.{whole-within, folds, folded}
+use Rattle.open.proofs.Takes.{whole-within, folds, folded}
 use borrow.Author.Needs.{needs}
 use Rattle.open.proofs.steps.take_challenge.Statement.{statement}
 use Rattle.open.proofs.steps.take_challenge.Tie as tie
