@@ -85,6 +85,21 @@ tv_answer tv_decode(uint32_t depth, uint32_t rate, const uint32_t *g, size_t g_l
 tv_answer tv_fold(uint32_t level, uint32_t rate, const uint32_t *t, size_t t_len, const uint32_t *t2, size_t t2_len,
                   const uint32_t *block, size_t block_len, uint32_t challenge, uint32_t *folded, size_t folded_len);
 
+/* z, r: depth words each. opening: TV_OPENING_LEN words. work: 2 * TV_MESSAGE_LEN(depth) words. *value is the polynomial's value at z and
+ * is written only when the number is 0. The opening holds, for i from depth down to 1, the three words of round i; then the value at r;
+ * then the blocks of levels depth - 1 down to 0. */
+tv_answer tv_write_opening(uint32_t depth, uint32_t rate, const uint32_t *g, size_t g_len, const uint32_t *t, size_t t_len,
+                           const uint32_t *t2, size_t t2_len, const uint32_t *message, size_t message_len, const uint32_t *z, size_t z_len,
+                           const uint32_t *r, size_t r_len, uint32_t *opening, size_t opening_len, uint32_t *work, size_t work_len,
+                           uint32_t *value);
+
+/* block: the commitment, TV_BLOCK_LEN(rate, depth) words. y: the value claimed at z. queries: 1 to TV_MOST_QUERIES places below
+ * TV_BLOCK_LEN(rate, depth - 1), repeated or not; at depth 0 none. */
+tv_answer tv_verify_opening(uint32_t depth, uint32_t rate, const uint32_t *g, size_t g_len, const uint32_t *t, size_t t_len,
+                            const uint32_t *t2, size_t t2_len, const uint32_t *block, size_t block_len, const uint32_t *z, size_t z_len,
+                            uint32_t y, const uint32_t *r, size_t r_len, const uint32_t *queries, size_t queries_len,
+                            const uint32_t *opening, size_t opening_len);
+
 #ifdef __cplusplus
 }
 #endif

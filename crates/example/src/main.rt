@@ -19,7 +19,17 @@ fn main() {
     let mut work = [0u32; 4];
     let mut y = 0u32;
     opening::tv_write_opening(
-        1, 2, &g, &t, &t2, &message, &z, &r, &mut opened, &mut work, &mut y,
+        1,
+        2,
+        &g,
+        &t,
+        &t2,
+        &message,
+        &z,
+        &r,
+        &mut opened,
+        &mut work,
+        &mut y,
     );
     print::words(b"opening", &opened);
     let v = opening::tv_verify_opening(1, 2, &g, &t, &t2, &block, &z, y, &r, &queries, &opened);

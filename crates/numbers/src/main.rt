@@ -15,5 +15,6 @@ fn main() {
     openings::depth_0();
     openings::queries();
     openings::eq_is_0();
+    openings::written();
     openings::places();
 }

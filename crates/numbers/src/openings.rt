@@ -20,19 +20,49 @@ pub fn depth_0() {
     verdict(
         b"depth 0, y = 9:",
         opening::tv_verify_opening(
-            0, 2, &g, &none, &none, &block, &none, 9, &none, &none, &opened,
+            0,
+            2,
+            &g,
+            &none,
+            &none,
+            &block,
+            &none,
+            9,
+            &none,
+            &none,
+            &opened,
         ),
     );
     verdict(
         b"depth 0, y = 8:",
         opening::tv_verify_opening(
-            0, 2, &g, &none, &none, &block, &none, 8, &none, &none, &opened,
+            0,
+            2,
+            &g,
+            &none,
+            &none,
+            &block,
+            &none,
+            8,
+            &none,
+            &none,
+            &opened,
         ),
     );
     verdict(
         b"depth 0, one query:",
         opening::tv_verify_opening(
-            0, 2, &g, &none, &none, &block, &none, 9, &none, &query, &opened,
+            0,
+            2,
+            &g,
+            &none,
+            &none,
+            &block,
+            &none,
+            9,
+            &none,
+            &query,
+            &opened,
         ),
     );
 }
@@ -67,43 +97,85 @@ pub fn eq_is_0() {
     depth_1(b"z = 0, r = 1, with 13s:", 0, 5, 1, 0, &damaged);
 }
 
-// Depth 2: word 0 of block 1 is changed. Query 2 meets it at level 0, where it goes on at place 0; query 3 goes on at 1 and does not.
+// The opening of 1 + 2 X_1 + 3 X_2 + 4 X_1 X_2 at (5, 6) with one query.
+fn depth_2(text: &[u8], query: u32, opened: &[u32]) {
+    let g = [1u32, 1];
+    let t = [2u32, 3, 4, 5, 6, 7];
+    let t2 = [3u32, 4, 5, 6, 7, 8];
+    let block = [49u32, 82, 97, 142, 60, 97, 112, 161];
+    let z = [5u32, 6];
+    let r = [7u32, 8];
+    let queries = [query];
+    verdict(
+        text,
+        opening::tv_verify_opening(2, 2, &g, &t, &t2, &block, &z, 149, &r, &queries, opened),
+    );
+}
+
+// Word 0 of block 1 is changed. Query 2 meets it at level 0, where it goes on at place 0; query 3 goes on at 1 and does not.
 pub fn places() {
+    let opened = [
+        2147483592u32,
+        6,
+        253,
+        2147475347,
+        7387,
+        25398,
+        263,
+        93,
+        127,
+        127,
+        161,
+        263,
+        263,
+    ];
+    let changed = [
+        2147483592u32,
+        6,
+        253,
+        2147475347,
+        7387,
+        25398,
+        263,
+        1,
+        127,
+        127,
+        161,
+        263,
+        263,
+    ];
+    depth_2(b"depth 2, query 2:", 2, &opened);
+    depth_2(b"query 2, block 1 changed at 0:", 2, &changed);
+    depth_2(b"query 3, block 1 changed at 0:", 3, &changed);
+}
+
+// The same opening, written.
+pub fn written() {
     let g = [1u32, 1];
     let t = [2u32, 3, 4, 5, 6, 7];
     let t2 = [3u32, 4, 5, 6, 7, 8];
     let message = [1u32, 2, 3, 4];
     let z = [5u32, 6];
     let r = [7u32, 8];
-    let mut block = [0u32; 8];
     let mut opened = [0u32; 13];
     let mut work = [0u32; 8];
     let mut y = 0u32;
     print::line(
-        b"depth 2 encoded:",
-        tvarchula::coding::tv_encode(2, 2, &g, &t, &t2, &message, &mut block).number,
-    );
-    print::line(
         b"depth 2 opened:",
         opening::tv_write_opening(
-            2, 2, &g, &t, &t2, &message, &z, &r, &mut opened, &mut work, &mut y,
-        )
-        .number,
+            2,
+            2,
+            &g,
+            &t,
+            &t2,
+            &message,
+            &z,
+            &r,
+            &mut opened,
+            &mut work,
+            &mut y,
+        ).number,
     );
     print::line(b"f(5, 6):", y);
-    let two = [2u32];
-    let three = [3u32];
-    verdict(
-        b"query 2:",
-        opening::tv_verify_opening(2, 2, &g, &t, &t2, &block, &z, y, &r, &two, &opened),
-    );
-    opened[7] = 1;
-    verdict(
-        b"query 2, block 1 changed at 0:",
-        opening::tv_verify_opening(2, 2, &g, &t, &t2, &block, &z, y, &r, &two, &opened),
-    );
-    verdict(
-        b"query 3, block 1 changed at 0:",
-        opening::tv_verify_opening(2, 2, &g, &t, &t2, &block, &z, y, &r, &three, &opened),
-    );
+    print::words(b"the opening:", &opened);
 }

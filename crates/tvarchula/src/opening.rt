@@ -106,7 +106,5 @@ pub extern "C" fn tv_verify_opening<'a>(
 ) -> Reply
     ensures { λ a. ⌜ a ≡ triple (numbersOf (verification depth rate (now (g .entry)) (now (t .entry)) (now (t2 .entry)) (now (block .entry)) (now (z .entry)) y (now (r .entry)) (now (queries .entry)) (now (opening .entry)))) ⌝ }
 {
-    told(verify::verify_opening(
-        depth, rate, g, t, t2, block, z, y, r, queries, opening,
-    ))
+    told(verify::verify_opening(depth, rate, g, t, t2, block, z, y, r, queries, opening))
 }

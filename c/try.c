@@ -1,0 +1,307 @@
+/* Calls each of the nine functions on the order's numbers. Checks every answer and, after every call, every buffer that was lent: a result
+ * holds what is due or is as it was, a work buffer too, and what is only read is as it was. Prints one line a check and exits with 1 when
+ * something differs. */
+#define _DEFAULT_SOURCE /* MAP_ANONYMOUS in lend.h */
+
+#include "tvarchula.h"
+
+#include "lend.h"
+
+#define P TV_MODULUS
+#define GARBAGE 0xdeadbeefu
+
+/* Words that a buffer must hold; with at NULL, what it held when it was lent. */
+typedef struct {
+    const uint32_t *at;
+    size_t len;
+} list;
+
+#define LIST(...) ((list){(const uint32_t[]){__VA_ARGS__}, sizeof((const uint32_t[]){__VA_ARGS__}) / sizeof(uint32_t)})
+#define OF(array) ((list){array, sizeof(array) / sizeof(*array)})
+#define NONE ((list){NULL, 0})
+#define AS_IT_WAS(length) ((list){NULL, length})
+#define ZEROS(length) ((list){zeros, length})
+#define DONE ((tv_answer){0, 0, 0})
+#define NUMBER(number) ((tv_answer){number, 0, 0})
+
+static const uint32_t zeros[8];
+
+/* What a call is lent, to be checked after it. */
+typedef struct {
+    uint32_t *at;
+    size_t len;
+    const uint32_t *due;
+} words;
+
+/* A slice as C hands it over. */
+#define W(words) (words).at, (words).len
+/* The same for clearances. */
+#define I(words) (int32_t *)(words).at, (words).len
+
+static words lent[12];
+static size_t lent_count;
+static int differences;
+
+static void begin(const char *function, const char *what)
+{
+    printf("%-26s%-52s", function, what);
+    fflush(stdout);
+    lent_count = 0;
+}
+
+static words lend(const uint32_t *held, size_t len, const uint32_t *due)
+{
+    words w = {lend_words(len), len, due};
+    for (size_t i = 0; i < len; i++)
+        w.at[i] = held != NULL ? held[i] : GARBAGE;
+    lent[lent_count++] = w;
+    return w;
+}
+
+static words reads(list held)
+{
+    return lend(held.at, held.len, held.at);
+}
+
+static words writes(list due)
+{
+    return lend(NULL, due.len, due.at);
+}
+
+static uint32_t due_at(words w, size_t i)
+{
+    return w.due != NULL ? w.due[i] : GARBAGE;
+}
+
+static int holds_due(words w)
+{
+    for (size_t i = 0; i < w.len; i++)
+        if (w.at[i] != due_at(w, i))
+            return 0;
+    return 1;
+}
+
+static void print_buffer(size_t position, words w)
+{
+    printf("    buffer %zu holds", position);
+    for (size_t i = 0; i < w.len; i++)
+        printf(" %u", (unsigned)w.at[i]);
+    printf("\n    due is");
+    for (size_t i = 0; i < w.len; i++)
+        printf(" %u", (unsigned)due_at(w, i));
+    puts(untouched_before(w.at, w.len) ? "" : ", and words before it were written");
+}
+
+static void end(tv_answer got, tv_answer due)
+{
+    int same = got.number == due.number && got.first == due.first && got.second == due.second;
+    for (size_t k = 0; k < lent_count; k++)
+        same = same && holds_due(lent[k]) && untouched_before(lent[k].at, lent[k].len);
+    puts(same ? "ok" : "DIFFERS");
+    if (!same)
+        printf("    answered %u %u %u, due is %u %u %u\n", (unsigned)got.number, (unsigned)got.first, (unsigned)got.second,
+               (unsigned)due.number, (unsigned)due.first, (unsigned)due.second);
+    for (size_t k = 0; k < lent_count; k++) {
+        if (!same)
+            print_buffer(k, lent[k]);
+        give_back_words(lent[k].at, lent[k].len);
+    }
+    differences += !same;
+}
+
+/* The row and the diagonals of the order. */
+typedef struct {
+    uint32_t depth, rate;
+    list g, t, t2;
+} code;
+
+static const uint32_t row[] = {1, 1}, t_0[] = {2, 3}, t2_0[] = {2147483645u, 2147483644u};
+static const uint32_t block_1[] = {19, 26, 2147483638u, 2147483631u};
+static const uint32_t opening_3[] = {2147483637u, 36, 152, 33, 33, 33};
+static const uint32_t opening_0[] = {5, 0, 2147483628u, 12, 12, 12};
+
+static code depth_1(void)
+{
+    return (code){1, 2, OF(row), OF(t_0), OF(t2_0)};
+}
+
+static code depth_0(void)
+{
+    return (code){0, 2, OF(row), NONE, NONE};
+}
+
+/* One call each, with what is due of its answer and its buffers. */
+
+static void reading(const char *what, uint32_t word, uint32_t number, uint32_t kind, uint32_t amount)
+{
+    begin("tv_read_clearance", what);
+    tv_reading got = tv_read_clearance(word);
+    end((tv_answer){got.number, got.kind, got.amount}, (tv_answer){number, kind, amount});
+}
+
+static void to_coefficients(const char *what, list clearances, tv_answer due, list message)
+{
+    begin("tv_table_to_coefficients", what);
+    words c = reads(clearances), m = writes(message);
+    end(tv_table_to_coefficients(I(c), W(m)), due);
+}
+
+static void to_table(const char *what, list message, tv_answer due, list clearances, list work)
+{
+    begin("tv_coefficients_to_table", what);
+    words m = reads(message), c = writes(clearances), s = writes(work);
+    end(tv_coefficients_to_table(W(m), I(c), W(s)), due);
+}
+
+static void evaluate(const char *what, uint32_t depth, list message, list z, tv_answer due, list value)
+{
+    begin("tv_evaluate", what);
+    words m = reads(message), point = reads(z), v = writes(value);
+    end(tv_evaluate(depth, W(m), W(point), v.at), due);
+}
+
+static void encode(const char *what, code c, list message, tv_answer due, list block)
+{
+    begin("tv_encode", what);
+    words g = reads(c.g), t = reads(c.t), t2 = reads(c.t2), m = reads(message), b = writes(block);
+    end(tv_encode(c.depth, c.rate, W(g), W(t), W(t2), W(m), W(b)), due);
+}
+
+static void decode(const char *what, code c, list block, tv_answer due, list message, list work)
+{
+    begin("tv_decode", what);
+    words g = reads(c.g), t = reads(c.t), t2 = reads(c.t2), b = reads(block), m = writes(message), s = writes(work);
+    end(tv_decode(c.depth, c.rate, W(g), W(t), W(t2), W(b), W(m), W(s)), due);
+}
+
+static void fold(const char *what, uint32_t level, list block, uint32_t challenge, tv_answer due, list folded)
+{
+    begin("tv_fold", what);
+    words t = reads(OF(t_0)), t2 = reads(OF(t2_0)), b = reads(block), f = writes(folded);
+    end(tv_fold(level, 2, W(t), W(t2), W(b), challenge, W(f)), due);
+}
+
+static void write_opening(const char *what, code c, list message, list z, list r, tv_answer due, list opening, list work, list value)
+{
+    begin("tv_write_opening", what);
+    words g = reads(c.g), t = reads(c.t), t2 = reads(c.t2), m = reads(message), point = reads(z), challenges = reads(r);
+    words o = writes(opening), s = writes(work), v = writes(value);
+    end(tv_write_opening(c.depth, c.rate, W(g), W(t), W(t2), W(m), W(point), W(challenges), W(o), W(s), v.at), due);
+}
+
+static void verify(const char *what, code c, list block, list z, uint32_t y, list r, list queries, list opening, tv_answer due)
+{
+    begin("tv_verify_opening", what);
+    words g = reads(c.g), t = reads(c.t), t2 = reads(c.t2), b = reads(block), point = reads(z), challenges = reads(r);
+    words q = reads(queries), o = reads(opening);
+    end(tv_verify_opening(c.depth, c.rate, W(g), W(t), W(t2), W(b), W(point), y, W(challenges), W(q), W(o)), due);
+}
+
+static void clearances(void)
+{
+    reading("residue 0 is free by 0", 0, 0, TV_FREE, 0);
+    reading("residue 1073741823 is free by as much", 1073741823, 0, TV_FREE, TV_FARTHEST);
+    reading("residue 1073741824 is an overlap of 1073741823", 1073741824, 0, TV_OVERLAP, TV_FARTHEST);
+    reading("residue 2147483646 is an overlap of 1", P - 1, 0, TV_OVERLAP, 1);
+    reading("word 2147483647 is no residue", P, 4, 0, 0);
+
+    to_coefficients("clearance -1 is residue 2147483646, at depth 0", LIST(-1), DONE, LIST(2147483646u));
+    to_coefficients("clearance 1073741824 is refused", LIST(1073741824), NUMBER(9), AS_IT_WAS(1));
+    to_coefficients("clearance -1073741824 is refused", LIST(-1073741824), NUMBER(9), AS_IT_WAS(1));
+    to_coefficients("table 3 5 4 10 to coefficients", LIST(3, 5, 4, 10), DONE, LIST(3, 2, 1, 4));
+    to_coefficients("table of length 3", LIST(1, 2, 3), NUMBER(1), AS_IT_WAS(3));
+    to_coefficients("table of length 0", NONE, NUMBER(1), NONE);
+    to_coefficients("message of another length", LIST(1, 2), NUMBER(3), AS_IT_WAS(1));
+
+    to_table("residue 1073741824 is clearance -1073741823", LIST(1073741824), DONE, LIST(-1073741823), ZEROS(1));
+    to_table("coefficients 3 2 1 4 to table", LIST(3, 2, 1, 4), DONE, LIST(3, 5, 4, 10), ZEROS(4));
+    to_table("message of length 3", LIST(1, 2, 3), NUMBER(1), AS_IT_WAS(3), AS_IT_WAS(3));
+    to_table("message word 2147483647", LIST(1, P), NUMBER(4), AS_IT_WAS(2), AS_IT_WAS(2));
+}
+
+static void codewords(void)
+{
+    code c = depth_1(), other = c;
+    evaluate("5 + 7 * 3", 1, LIST(5, 7), LIST(3), DONE, LIST(26));
+    evaluate("point word 2147483646", 1, LIST(5, 7), LIST(P - 1), DONE, LIST(P - 2));
+    evaluate("point word 2147483647", 1, LIST(5, 7), LIST(P), NUMBER(4), AS_IT_WAS(1));
+    evaluate("evaluation at depth 17", 17, LIST(5, 7), LIST(3), NUMBER(1), AS_IT_WAS(1));
+
+    encode("message 5 7 encoded", c, LIST(5, 7), DONE, OF(block_1));
+    encode("message 9 encoded at depth 0", depth_0(), LIST(9), DONE, LIST(9, 9));
+    encode("message word 2147483646", c, LIST(0, P - 1), DONE, LIST(P - 2, P - 3, 2, 3));
+    encode("message word 2147483647", c, LIST(5, P), NUMBER(4), AS_IT_WAS(4));
+    encode("block of another length", c, LIST(5, 7), NUMBER(3), AS_IT_WAS(3));
+    other.depth = 17;
+    encode("depth 17", other, LIST(5, 7), NUMBER(1), AS_IT_WAS(4));
+    other = c;
+    other.rate = 1;
+    encode("rate 1", other, LIST(5, 7), NUMBER(2), AS_IT_WAS(4));
+    other.rate = 17;
+    encode("rate 17", other, LIST(5, 7), NUMBER(2), AS_IT_WAS(4));
+    other = c;
+    other.t2 = LIST(2147483645u, 3);
+    encode("diagonals equal at 1", other, LIST(5, 7), NUMBER(6), AS_IT_WAS(4));
+    other.g = LIST(1, 0);
+    encode("the same and a zero in the row", other, LIST(5, 7), NUMBER(5), AS_IT_WAS(4));
+
+    decode("that block decoded", c, OF(block_1), DONE, LIST(5, 7), ZEROS(4));
+    decode("its last word 2147483632", c, LIST(19, 26, 2147483638u, 2147483632u), NUMBER(8), AS_IT_WAS(2), ZEROS(4));
+    decode("its last word 2147483647", c, LIST(19, 26, 2147483638u, P), NUMBER(4), AS_IT_WAS(2), AS_IT_WAS(4));
+
+    fold("that block folded by 4", 1, OF(block_1), 4, DONE, LIST(33, 33));
+    fold("folded from level 0", 0, OF(block_1), 4, NUMBER(1), AS_IT_WAS(2));
+    fold("folded by 2147483647", 1, OF(block_1), P, NUMBER(4), AS_IT_WAS(2));
+}
+
+static void openings(void)
+{
+    code c = depth_1();
+    list block = OF(block_1), o = OF(opening_3);
+    write_opening("5 7 opened at 3 by 4", c, LIST(5, 7), LIST(3), LIST(4), DONE, o, ZEROS(4), LIST(26));
+    write_opening("5 7 opened at 0 by 1", c, LIST(5, 7), LIST(0), LIST(1), DONE, OF(opening_0), ZEROS(4), LIST(5));
+    write_opening("9 opened at depth 0", depth_0(), LIST(9), NONE, NONE, DONE, LIST(9), ZEROS(2), LIST(9));
+    write_opening("challenge 2147483647", c, LIST(5, 7), LIST(3), LIST(P), NUMBER(4), AS_IT_WAS(6), AS_IT_WAS(4), AS_IT_WAS(1));
+
+    verify("26 claimed, queries 0 1", c, block, LIST(3), 26, LIST(4), LIST(0, 1), o, DONE);
+    verify("27 claimed: sum 1", c, block, LIST(3), 27, LIST(4), LIST(0, 1), o, (tv_answer){20, 1, 0});
+    verify("another final value", c, block, LIST(3), 26, LIST(4), LIST(0), LIST(P - 10, 36, 152, 34, 33, 33), NUMBER(21));
+    verify("another word 1 in block 0: base 1", c, block, LIST(3), 26, LIST(4), LIST(0), LIST(P - 10, 36, 152, 33, 33, 34),
+           (tv_answer){22, 1, 0});
+    verify("query 1", c, block, LIST(3), 26, LIST(4), LIST(1), o, DONE);
+    verify("query 2", c, block, LIST(3), 26, LIST(4), LIST(2), o, NUMBER(7));
+    verify("no query", c, block, LIST(3), 26, LIST(4), NONE, o, NUMBER(7));
+    verify("eq is 0, 5 claimed", c, block, LIST(0), 5, LIST(1), LIST(0), OF(opening_0), DONE);
+    verify("eq is 0, 13 for 12: fold of query 0 to level 0", c, block, LIST(0), 5, LIST(1), LIST(0),
+           LIST(5, 0, 2147483628u, 13, 13, 13), (tv_answer){23, 0, 0});
+    verify("depth 0, 9 claimed", depth_0(), LIST(9, 9), NONE, 9, NONE, NONE, LIST(9), DONE);
+    verify("depth 0, 8 claimed", depth_0(), LIST(9, 9), NONE, 8, NONE, NONE, LIST(9), NUMBER(21));
+    verify("depth 0, a query", depth_0(), LIST(9, 9), NONE, 9, NONE, LIST(0), LIST(9), NUMBER(7));
+}
+
+/* At depth 2 query 2 goes on at place 0 of level 1. By hand: f is 5 + 7 X_0 + 11 X_1 + 13 X_0 X_1; round 2 is (26 + 50 X)(7 X - 3), round 1
+ * is (71 + 85 X)(5 X - 2) 39; block 1 is the codeword of 71 85, and f(5, 6) is 496. */
+static void second_half(void)
+{
+    code c = {2, 2, OF(row), LIST(2, 3, 4, 5, 6, 7), LIST(8, 9, 10, 11, 12, 13)};
+    list message = LIST(5, 7, 11, 13), z = LIST(3, 4), r = LIST(5, 6);
+    list block = LIST(167, 276, 751, 964, 389, 576, 1441, 1732);
+    list good = LIST(P - 78, 304, 1386, P - 5538, 18252, 75192, 496, 241, 326, 751, 836, 496, 496);
+    list wrong = LIST(P - 78, 304, 1386, P - 5538, 18252, 75192, 496, 242, 326, 751, 836, 496, 496);
+    encode("5 7 11 13 encoded at depth 2", c, message, DONE, block);
+    write_opening("opened at 3 4 by 5 6", c, message, z, r, DONE, good, ZEROS(8), LIST(226));
+    verify("226 claimed, query 2", c, block, z, 226, r, LIST(2), good, DONE);
+    verify("place 0 of block 1 wrong, query 3", c, block, z, 226, r, LIST(3), wrong, DONE);
+    verify("queries 3 2: fold of query 1 to level 0", c, block, z, 226, r, LIST(3, 2), wrong, (tv_answer){23, 1, 0});
+    verify("queries 3 3 0: fold of query 2 to level 1", c, block, z, 226, r, LIST(3, 3, 0), wrong, (tv_answer){23, 2, 1});
+}
+
+int main(void)
+{
+    clearances();
+    codewords();
+    openings();
+    second_half();
+    printf("%d differences\n", differences);
+    return differences > 0;
+}

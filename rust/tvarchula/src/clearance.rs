@@ -1,0 +1,106 @@
+//! Clearances: reading one, and tables of them.
+
+use std::fmt;
+
+use crate::raw;
+use crate::refusal::{done, unknown, Refusal};
+
+/// What a residue says as a clearance, in micrometres.
+#[derive(Clone, Copy, PartialEq, Eq, Hash, Debug)]
+pub enum Reading {
+    /// Free, with this distance.
+    Free(u32),
+    /// An overlap of this amount.
+    Overlap(u32),
+}
+
+impl Reading {
+    /// The clearance as it stands in a table: negative for an overlap.
+    ///
+    /// ```
+    /// use tvarchula::Reading;
+    /// assert_eq!(Reading::Free(1250).micrometres(), 1250);
+    /// assert_eq!(Reading::Overlap(300).micrometres(), -300);
+    /// ```
+    pub const fn micrometres(self) -> i64 {
+        match self {
+            Reading::Free(distance) => distance as i64,
+            Reading::Overlap(amount) => -(amount as i64),
+        }
+    }
+}
+
+impl fmt::Display for Reading {
+    fn fmt(&self, f: &mut fmt::Formatter<'_>) -> fmt::Result {
+        match self {
+            Reading::Free(distance) => write!(f, "{distance} micrometres free"),
+            Reading::Overlap(amount) => write!(f, "{amount} micrometres of overlap"),
+        }
+    }
+}
+
+/// Reads a word as a clearance. Refuses with [`Refusal::Word`] only.
+///
+/// ```
+/// use tvarchula::{read_clearance, Reading, Refusal, MODULUS};
+/// assert_eq!(read_clearance(1250), Ok(Reading::Free(1250)));
+/// assert_eq!(read_clearance(MODULUS - 1), Ok(Reading::Overlap(1)));
+/// assert_eq!(read_clearance(MODULUS), Err(Refusal::Word));
+/// ```
+pub fn read_clearance(word: u32) -> Result<Reading, Refusal> {
+    let raw = raw::read_clearance(word);
+    done(raw.number)?;
+    match raw.kind {
+        1 => Ok(Reading::Free(raw.amount)),
+        2 => Ok(Reading::Overlap(raw.amount)),
+        other => unknown(other),
+    }
+}
+
+/// The coefficients of the polynomial whose values at the corners are the table's entries: entry b
+/// is the value where variable i is bit i of b.
+///
+/// `message` has as many words as the table has entries, a power of two.
+///
+/// ```
+/// use tvarchula::table_to_coefficients;
+/// let mut message = [0; 4];
+/// table_to_coefficients(&[3, 5, 4, 10], &mut message)?;
+/// assert_eq!(message, [3, 2, 1, 4]);
+/// # Ok::<(), tvarchula::Refusal>(())
+/// ```
+pub fn table_to_coefficients(clearances: &[i32], message: &mut [u32]) -> Result<(), Refusal> {
+    done(raw::table_to_coefficients(clearances, message).number)
+}
+
+/// [`table_to_coefficients`] into a new vector.
+pub fn table_to_coefficients_vec(clearances: &[i32]) -> Result<Vec<u32>, Refusal> {
+    let mut message = vec![0; clearances.len()];
+    table_to_coefficients(clearances, &mut message)?;
+    Ok(message)
+}
+
+/// The table back from the coefficients. `clearances` and `work` are as long as the message.
+///
+/// ```
+/// use tvarchula::coefficients_to_table;
+/// let (mut table, mut work) = ([0; 4], [0; 4]);
+/// coefficients_to_table(&[3, 2, 1, 4], &mut table, &mut work)?;
+/// assert_eq!(table, [3, 5, 4, 10]);
+/// # Ok::<(), tvarchula::Refusal>(())
+/// ```
+pub fn coefficients_to_table(
+    message: &[u32],
+    clearances: &mut [i32],
+    work: &mut [u32],
+) -> Result<(), Refusal> {
+    done(raw::coefficients_to_table(message, clearances, work).number)
+}
+
+/// [`coefficients_to_table`] into a new vector.
+pub fn coefficients_to_table_vec(message: &[u32]) -> Result<Vec<i32>, Refusal> {
+    let mut clearances = vec![0; message.len()];
+    let mut work = vec![0; message.len()];
+    coefficients_to_table(message, &mut clearances, &mut work)?;
+    Ok(clearances)
+}

@@ -1,0 +1,126 @@
+//! The polynomial and its code: evaluation, encoding, decoding, folding.
+
+use crate::raw;
+use crate::refusal::{done, Refusal};
+use crate::sizes::{block_len, message_len};
+
+/// The code that planner and cell agree on. Whoever draws its row and diagonals keeps them; they
+/// are lent to each call.
+#[derive(Clone, Copy, PartialEq, Eq, Debug)]
+pub struct Code<'a> {
+    /// The number of variables, 0 to 16. A message has 2^depth words.
+    pub depth: u32,
+    /// The words of a block for each word of a message, 2 to 16.
+    pub rate: u32,
+    /// The base row: `rate` words, none of them 0.
+    pub g: &'a [u32],
+    /// The first diagonal of every level, [`diagonals_len`](crate::diagonals_len) words.
+    pub t: &'a [u32],
+    /// The second diagonal of every level, different from the first in every place.
+    pub t2: &'a [u32],
+}
+
+/// The value at `z` of the polynomial whose coefficients the message holds: word b multiplies those
+/// variables whose bit in b is set, and word i of `z` is variable i.
+///
+/// ```
+/// use tvarchula::evaluate;
+/// assert_eq!(evaluate(1, &[5, 7], &[3]), Ok(26)); // 5 + 7 * 3
+/// ```
+pub fn evaluate(depth: u32, message: &[u32], z: &[u32]) -> Result<u32, Refusal> {
+    let mut value = 0;
+    done(raw::evaluate(depth, message, z, &mut value).number)?;
+    Ok(value)
+}
+
+/// Writes the codeword of a message, [`block_len`]`(rate, depth)` words: the commitment.
+///
+/// ```
+/// use tvarchula::{encode, Code};
+/// let code = Code { depth: 1, rate: 2, g: &[1, 1], t: &[2, 3], t2: &[2147483645, 2147483644] };
+/// let mut block = [0; 4];
+/// encode(&code, &[5, 7], &mut block)?;
+/// assert_eq!(block, [19, 26, 2147483638, 2147483631]);
+/// # Ok::<(), tvarchula::Refusal>(())
+/// ```
+pub fn encode(code: &Code<'_>, message: &[u32], block: &mut [u32]) -> Result<(), Refusal> {
+    done(raw::encode(code, message, block).number)
+}
+
+/// [`encode`] into a new vector.
+pub fn encode_vec(code: &Code<'_>, message: &[u32]) -> Result<Vec<u32>, Refusal> {
+    let mut block = vec![0; block_len(code.rate, code.depth)];
+    encode(code, message, &mut block)?;
+    Ok(block)
+}
+
+/// Writes the message of a codeword, and refuses any other block with [`Refusal::NoCodeword`].
+/// `work` is as long as the block.
+///
+/// ```
+/// use tvarchula::{decode, Code, Refusal};
+/// let code = Code { depth: 1, rate: 2, g: &[1, 1], t: &[2, 3], t2: &[2147483645, 2147483644] };
+/// let (mut message, mut work) = ([0; 2], [0; 4]);
+/// decode(&code, &[19, 26, 2147483638, 2147483631], &mut message, &mut work)?;
+/// assert_eq!(message, [5, 7]);
+///
+/// let damaged = [19, 26, 2147483638, 2147483632];
+/// let refused = decode(&code, &damaged, &mut message, &mut work);
+/// assert_eq!(refused, Err(Refusal::NoCodeword));
+/// # Ok::<(), Refusal>(())
+/// ```
+pub fn decode(
+    code: &Code<'_>,
+    block: &[u32],
+    message: &mut [u32],
+    work: &mut [u32],
+) -> Result<(), Refusal> {
+    done(raw::decode(code, block, message, work).number)
+}
+
+/// [`decode`] into a new vector.
+pub fn decode_vec(code: &Code<'_>, block: &[u32]) -> Result<Vec<u32>, Refusal> {
+    let mut message = vec![0; message_len(code.depth)];
+    let mut work = vec![0; block_len(code.rate, code.depth)];
+    decode(code, block, &mut message, &mut work)?;
+    Ok(message)
+}
+
+/// Folds a block of a level to the one below. At place j that is the value at the challenge of the
+/// straight line through the block's words j and j + n, which stand at `t[j]` and `t2[j]`.
+///
+/// `level` is the upper one, 1 to 16; `t`, `t2` and `folded` have the n words of the level below.
+///
+/// ```
+/// use tvarchula::fold;
+/// let (t, t2) = ([2, 3], [2147483645, 2147483644]);
+/// let mut folded = [0; 2];
+/// fold(1, 2, &t, &t2, &[19, 26, 2147483638, 2147483631], 4, &mut folded)?;
+/// assert_eq!(folded, [33, 33]);
+/// # Ok::<(), tvarchula::Refusal>(())
+/// ```
+pub fn fold(
+    level: u32,
+    rate: u32,
+    t: &[u32],
+    t2: &[u32],
+    block: &[u32],
+    challenge: u32,
+    folded: &mut [u32],
+) -> Result<(), Refusal> {
+    done(raw::fold(level, rate, t, t2, block, challenge, folded).number)
+}
+
+/// [`fold`] into a new vector.
+pub fn fold_vec(
+    level: u32,
+    rate: u32,
+    t: &[u32],
+    t2: &[u32],
+    block: &[u32],
+    challenge: u32,
+) -> Result<Vec<u32>, Refusal> {
+    let mut folded = vec![0; block_len(rate, level.saturating_sub(1))];
+    fold(level, rate, t, t2, block, challenge, &mut folded)?;
+    Ok(folded)
+}

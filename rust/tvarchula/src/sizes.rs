@@ -1,0 +1,84 @@
+//! The limits, and the lengths that follow from a depth and a rate.
+//!
+//! A length is 0 where depth, level or rate is not legal. Every job refuses those before it looks
+//! at any length, so a buffer of that length is answered with the right refusal.
+
+/// The modulus p, 2^31 - 1. Every word that is read is below it.
+pub const MODULUS: u32 = 2_147_483_647;
+/// The largest depth.
+pub const DEEPEST: u32 = 16;
+/// The smallest rate.
+pub const LEAST_RATE: u32 = 2;
+/// The largest rate.
+pub const MOST_RATE: u32 = 16;
+/// The longest query list.
+pub const MOST_QUERIES: usize = 256;
+/// The longest table.
+pub const LONGEST_TABLE: usize = 65_536;
+/// The largest clearance, in micrometres; the smallest is its negative.
+pub const FARTHEST: i32 = 1_073_741_823;
+
+/// Words of a message: 2^depth.
+///
+/// ```
+/// use tvarchula::message_len;
+/// assert_eq!(message_len(3), 8);
+/// assert_eq!(message_len(17), 0); // no legal depth
+/// ```
+pub const fn message_len(depth: u32) -> usize {
+    if depth <= DEEPEST {
+        1 << depth
+    } else {
+        0
+    }
+}
+
+/// Words of a block of a level: rate * 2^level.
+///
+/// ```
+/// use tvarchula::block_len;
+/// assert_eq!(block_len(2, 1), 4);
+/// assert_eq!(block_len(16, 16), 1_048_576);
+/// assert_eq!(block_len(17, 1), 0); // no legal rate
+/// ```
+pub const fn block_len(rate: u32, level: u32) -> usize {
+    if LEAST_RATE <= rate && rate <= MOST_RATE {
+        rate as usize * message_len(level)
+    } else {
+        0
+    }
+}
+
+/// Words of each of the two diagonals: rate * (2^depth - 1).
+///
+/// Level i lies from `diagonals_len(rate, i)` to `diagonals_len(rate, i + 1)`:
+///
+/// ```
+/// use tvarchula::{block_len, diagonals_len};
+/// let level_1 = diagonals_len(2, 1)..diagonals_len(2, 2);
+/// assert_eq!(level_1, 2..6);
+/// assert_eq!(level_1.len(), block_len(2, 1));
+/// assert_eq!(diagonals_len(2, 0), 0);
+/// ```
+pub const fn diagonals_len(rate: u32, depth: u32) -> usize {
+    block_len(rate, depth).saturating_sub(rate as usize)
+}
+
+/// Words of an opening: 3 * depth + 1 + rate * (2^depth - 1).
+///
+/// In this order: for i from depth down to 1 the three words of round i, the value at the
+/// challenges, the blocks of levels depth - 1 down to 0.
+///
+/// ```
+/// use tvarchula::opening_len;
+/// assert_eq!(opening_len(1, 2), 6);
+/// assert_eq!(opening_len(16, 16), 1_048_609);
+/// assert_eq!(opening_len(0, 2), 1);
+/// assert_eq!(opening_len(17, 2), 0); // no legal depth
+/// ```
+pub const fn opening_len(depth: u32, rate: u32) -> usize {
+    if block_len(rate, depth) == 0 {
+        return 0;
+    }
+    3 * depth as usize + 1 + diagonals_len(rate, depth)
+}
