@@ -2,6 +2,8 @@
 --     Calls      which row and diagonals are legal; what encoding and folding write
 --     Folds      fold-law, two-challenge-law
 --     Openings   opening-accepted, opening-fails
+--     Starred    the numbers that are proved, as one table
 pub mod Calls
 pub mod Folds
 pub mod Openings
+pub mod Starred
