@@ -2,7 +2,7 @@
 use mathlib.Core.Path.{_≡_, refl, sym, ap, ap₂, _∙_}
 use mathlib.Core.List.{List, [], _∷_, _++_, append-assoc}
 use Prim.Native.Nat.{ℕ, _+_, _*_, _-_, _^_, _<_, _≤_}
-use native.Mathlib.Nat.{mul-comm, one-mul, mul-le-mul-right}
+use native.Mathlib.Nat.{mul-comm, mul-le-mul-right}
 use native.Mathlib.Omega.{arith}
 use lib.ListN.{length, take, drop, length-append, length-take, length-drop}
 use lib.Pow.{pow-pos}
@@ -11,7 +11,7 @@ use borrow.Rule.Slice.PartMut.{putMid}
 use Rattle.algebra.specs.Algebra.{algebra, quote, from₁}
 use Rattle.algebra.specs.Lists.{length-row}
 use Rattle.algebra.specs.Words.{𝔽₁}
-use Rattle.foldable.specs.Columns.{pick, length-pick}
+use Rattle.foldable.specs.Columns.{pick}
 use Rattle.job.specs.Limits.{power-most, diagonalsSize}
 use Rattle.residue.specs.Residues.{P, K, Element, el, word, _⊟_}
 use Rattle.decode.specs.Steps.{gap, Gaps, inverted, Decodes}
@@ -60,9 +60,6 @@ module _ (d : ℕ) (g t t' b work : List ℕ) (𝓓 : Decodes d g t t' b (length
     where
       sized : diagonalsSize (length g) d ≡ (n - 1) * length g
       sized = ap (λ k. length g * (k - 1)) (sym en) ∙ mul-comm (length g) (n - 1)
-
-  pub length-column : length (pick (length g) 1 n b) ≡ n
-  length-column = length-pick (length g) 1 n b (gathering .0) (𝓓 .size ∙ ap (λ k. length g * k) (sym en)) ∙ one-mul n
 
   module _ (l : List ℕ) (ll : length l ≡ length (take n work)) where
     length-l : length l ≡ n

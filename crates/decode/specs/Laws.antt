@@ -1,7 +1,7 @@
 -- What holds where a block may be decoded, and what the contract of decoding says of two results and of codewords. Assumes nothing.
 use mathlib.Core.Path.{_≡_, refl, sym, ap, _∙_}
 use mathlib.Core.Logic.{_↔_}
-use mathlib.Core.Bool.{_&&_}
+use mathlib.Core.Bool.{Bool, true, false, _&&_}
 use mathlib.Core.List.{List, [], _∷_}
 use Prim.Native.Nat.{ℕ, zero, suc, _^_, _<_, _≤_}
 use native.Mathlib.Nat.{one-mul}
@@ -20,8 +20,8 @@ use Rattle.job.specs.declared.Refusal.{Refusal}
 use Rattle.job.specs.declared.Refusal.the-variants.{Depth, Rate, Length, Word, BaseRow, Diagonals, Queries, NoCodeword, Clearance}
 use Rattle.job.specs.declared.Answer.{Answer}
 use Rattle.job.specs.declared.Answer.the-variants.{Done, Refused}
-use Rattle.job.specs.Outcome.{Outcome, refused, done, outcome, _⨾_, must-done}
-use Rattle.job.specs.Limits.{deepest, blockSize, diagonalsSize, rate-least, rate-most}
+use Rattle.job.specs.Outcome.{Outcome, refused, done, outcome, must, _⨾_, must-done}
+use Rattle.job.specs.Limits.{deepest, depthOk, rateOk, blockSize, diagonalsSize, rate-least, rate-most}
 use Rattle.residue.specs.Residues.{P, F, K, el, inv}
 use Rattle.residue.specs.Scans.{allBelow, noneZero, allDiffer, all-below, none-zero, all-differ}
 use Rattle.code.specs.Lent.{lent}
@@ -35,6 +35,27 @@ open Vectors (vectors K) using (_⊛_)
 both : {A : Type 0} (o : Outcome (Unit {0})) {next : Outcome A} {a : A} → o ⨾ next ≡ done a → (o ≡ done tt) × (next ≡ done a)
 both (refused n) e = absurd (let z : _≡_ {A = ℕ} 0 1 = cc in omega arith)
 both (done tt) e = (refl, e)
+
+-- refusals that are at most m
+must-most : {A : Type 0} (b : Bool) (k m : ℕ) {next : Outcome A} {n : ℕ} → k ≤ m → (next ≡ refused n → n ≤ m) → must b k next ≡ refused n → n ≤ m
+must-most true k m h f e = f e
+must-most false k m {n = n} h f e = let same : k ≡ n = cc in omega arith
+
+after-most : {A B : Type 0} (o : Outcome A) (m : ℕ) {next : Outcome B} {n : ℕ} → (o ≡ refused n → n ≤ m) → (next ≡ refused n → n ≤ m) → o ⨾ next ≡ refused n → n ≤ m
+after-most (refused k) m {n = n} f g e = f (let same : k ≡ n = cc in ap refused same)
+after-most (done a) m f g e = g e
+
+done-most : {m n : ℕ} → _≡_ {A = Outcome (Unit {0})} (done tt) (refused n) → n ≤ m
+done-most e = absurd (let z : _≡_ {A = ℕ} 0 1 = cc in omega arith)
+
+-- the tests give the numbers 1 to 6
+decoding-most : (d c : ℕ) (g t t' b : List ℕ) (m k n : ℕ) → decoding d c g t t' b m k ≡ refused n → n ≤ 6
+unfolding decoding
+decoding-most d c g t t' b m k n =
+    after-most (limits d c) 6 (must-most (depthOk d) 1 6 (omega arith) (must-most (rateOk c) 2 6 (omega arith) done-most))
+    (must-most (decodeLengths d c (length g) (length t) (length t') (length b) m k) 3 6 (omega arith)
+    (must-most (rowWords g t t' && allBelow b) 4 6 (omega arith)
+    (must-most (noneZero g) 5 6 (omega arith) (must-most (allDiffer t t') 6 6 (omega arith) done-most))))
 
 -- no refusal from 1 to 6 is due
 pub decodes : (d c : ℕ) (g t t' b : List ℕ) (m k : ℕ) → decoding d c g t t' b m k ≡ done tt → Decodes d g t t' b k × (m ≡ 2 ^ d)
@@ -163,3 +184,15 @@ module _ (d c : ℕ) (g t t' b old space : List ℕ) where
     pub gives : (m : List ℕ) → length m ≡ 2 ^ d → Low P m → encode F (lent g t t') d (elements 𝔽₁ m) ≡ elements 𝔽₁ b → Result r out work → (outcome r ≡ done tt) × (out ≡ m)
     gives m l p e (refusal n j' a o w) = absurd (let z : _≡_ {A = ℕ} 0 1 = cc in omega arith)
     gives m l p e (settled j' s w) = settled-message d g t t' b (length space) (known j) old r out m s l p e
+
+  -- 8 is given exactly where none of them is due and the block is no codeword
+  pub eight : (r : Answer) (out work : List ℕ) → Result r out work → (outcome r ≡ refused 8) ↔ ((judged ≡ done tt) × (Codeword F (lent g t t') d (elements 𝔽₁ b) → ⊥))
+  eight r out work (refusal n j a o w) = (
+    λ e. let same : n ≡ 8 = cc in absurd (omega (arith, decoding-most d c g t t' b (length old) (length space) n j)),
+    λ x. absurd (let f : judged ≡ done tt = x .0 in let z : _≡_ {A = ℕ} 0 1 = cc in omega arith),
+  )
+  eight r out work (settled j (message a l p e) w) = (
+    λ f. absurd (let z : _≡_ {A = ℕ} 0 1 = cc in omega arith),
+    λ x. absurd (x .1 (codeword-of d g t t' b (length space) (known j) out l e)),
+  )
+  eight r out work (settled j (none a n s) w) = (λ _. (j, n), λ _. a)

@@ -1,12 +1,11 @@
 use mathlib.Core.Path.{_∙_}
 use lib.ListN.{length}
 use Rattle.decode.proofs.Deciding.{front}
-use borrow.Author.Needs.{needs}
 use Rattle.decode.proofs.decode.give.Statement.{statement}
 use Rattle.decode.proofs.decode.give.Tie as tie
 
 message-of-requires : tie.Need-message-of-requires
-message-of-requires c κs = search needs
+message-of-requires c κs = c .before .before .before .before .before .before .before .pre .0
 
 slice-reshare-prefix-copy : tie.Need-slice-reshare-prefix-copy
 slice-reshare-prefix-copy c =
@@ -21,10 +20,10 @@ copy-requires c κs =
     let s = c .before .before .before .before .before .before .before .before .before .before .before .before in let a = s .args in let f = front (a .depth) (a .g .now) (a .t .now) (a .t2 .now) (a .block .now) _ (s .pre .0) (c .before .before .before .before .message-of .last .1 .1 .1 .1 .1 .0) (length (a .out .now)) (s .pre .1) (c .before .before .before .before .message-of .ensures) in f .1
 
 same-length : tie.Need-same-length
-same-length c = search needs
+same-length c = c .before .before .copy .kept .1 .0
 
 same-length-2 : tie.Need-same-length-2
-same-length-2 c = search needs
+same-length-2 c = c .before .before .before .before .before .before .before .message-of .kept .1 .1 .1 .1 .1 .0
 
 returns : tie.Need-returns
 returns c =

@@ -1,14 +1,14 @@
+use mathlib.Core.Path.{_∙_}
 use Rattle.job.specs.Flags.{passes, fails}
 use Rattle.decode.proofs.Deciding.{found, not-found}
-use borrow.Author.Needs.{needs}
 use Rattle.decode.proofs.decode.settle.Statement.{statement}
 use Rattle.decode.proofs.decode.settle.Tie as tie
 
 is-codeword-requires : tie.Need-is-codeword-requires
-is-codeword-requires c κs = search needs
+is-codeword-requires c κs = c .before .before .before .before .before .before .before .pre .0
 
 same-length : tie.Need-same-length
-same-length c = search needs
+same-length c = c .before .before .before .is-codeword .kept .1 .1 .1 .1 .1 .0
 
 returns : tie.Need-returns
 returns c =
@@ -19,10 +19,11 @@ give-requires c κs =
     let s = c .before .before .before .before .before .before .before .before .before .before .before .before .before in let a = s .args in (rw (c .before .before .before .before .before .is-codeword .kept .1 .1 .1 .1 .1 .0) (s .pre .0), s .pre .1)
 
 same-length-2 : tie.Need-same-length-2
-same-length-2 c = search needs
+same-length-2 c = c .before .before .before .before .give .kept .1 .1 .1 .1 .1 .0
 
 same-length-3 : tie.Need-same-length-3
-same-length-3 c = search needs
+same-length-3 c =
+    c .before .before .before .before .give .kept .1 .1 .1 .1 .1 .1 .0 ∙ c .before .before .before .before .before .before .before .before .before .before .is-codeword .kept .1 .1 .1 .1 .1 .0
 
 returns-2 : tie.Need-returns-2
 returns-2 c =

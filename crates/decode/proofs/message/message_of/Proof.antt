@@ -5,15 +5,14 @@ use lib.ListN.{length, take, length-take}
 use lib.Seq.{length-front}
 use Rattle.decode.proofs.Messages.{undoing, message-is}
 use Rattle.decode.proofs.Preparing.{some, few, room}
-use borrow.Author.Needs.{needs}
 use Rattle.decode.proofs.message.message_of.Statement.{statement}
 use Rattle.decode.proofs.message.message_of.Tie as tie
 
 prepare-requires : tie.Need-prepare-requires
-prepare-requires c κs = search needs
+prepare-requires c κs = c .before .before .before .before .before .before .pre
 
 message-len-requires : tie.Need-message-len-requires
-message-len-requires c κs = search needs
+message-len-requires c κs = c .before .before .before .before .before .before .before .before .before .pre .depth
 
 sub-e : tie.Need-sub-e
 sub-e c =

@@ -6,7 +6,7 @@ use Rattle.decode.proofs.message.prepare.Statement.{statement}
 use Rattle.decode.proofs.message.prepare.Tie as tie
 
 message-len-requires : tie.Need-message-len-requires
-message-len-requires c κs = search needs
+message-len-requires c κs = c .before .before .before .before .before .pre .depth
 
 sub-e : tie.Need-sub-e
 sub-e c =

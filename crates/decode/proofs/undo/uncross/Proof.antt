@@ -45,7 +45,7 @@ slice-read-stretch-2 c = omega arith
 
 stretch-requires : tie.Need-stretch-requires Inv-loop μ-loop
 stretch-requires c κs =
-    let s = c .before .before .before .before .before .before .before in let a = s .args in let l = c .before .before .before .before .loop in let b = s .pre .behind in let e = s .pre .within in uncross-low (a .n) (a .a) (a .c) (a .t .now) (a .w .now) (s .pre) (l .i) (l .w) (omega arith) (l .inv .3)
+    let s = c .before .before .before .before .before .before .before in let a = s .args in let l = c .before .before .before .before .loop in let b = s .pre .behind in let e = s .pre .within in let u = uncross-low (a .n) (a .a) (a .c) (a .t .now) (a .w .now) (s .pre) (l .i) (l .w) (omega arith) (l .inv .3) in (omega arith, omega arith, omega arith)
 
 mul-less : tie.Need-mul-less Inv-loop μ-loop
 mul-less c =
