@@ -1,58 +1,40 @@
-use mathlib.Core.Path.{_≡_, refl, sym, ap, _∙_}
-use Rattle.job.specs.Outcome.{outcome, refused, done}
-use Rattle.polynomial.specs.Evaluation.{outcome as evaluated}
+use mathlib.Core.Path.{sym, ap, _∙_}
 use Rattle.tvarchula.specs.Replies.{reply, given}
 use Rattle.open.specs.Writing.{outcome as wrote}
-use Rattle.verify.specs.Verdicts.{numbers, checkNumbers, check}
-use Rattle.tvarchula.specs.Replies.{triple}
 use borrow.Author.Needs.{needs}
 use Rattle.tvarchula.proofs.opening.tv_write_opening.Statement.{statement}
 use Rattle.tvarchula.proofs.opening.tv_write_opening.Tie as tie
-use Rattle.tvarchula.proofs.opening.tv_write_opening.Reads as reads
-use Rattle.tvarchula.proofs.opening.tv_write_opening.Lts as lts
-use Rattle.job.proofs.number.Reads as number-reads
-use Rattle.open.proofs.write_opening.Reads as write-opening-reads
 
--- src/opening.rt:28:9
 write-opening-requires : tie.Need-write-opening-requires
 write-opening-requires c κs = search needs
 
--- src/opening.rt:30:24
 enum-known-w : tie.Need-enum-known-w
 enum-known-w c = search needs
 
--- src/opening.rt:38:26
 enum-known-w-2 : tie.Need-enum-known-w-2
 enum-known-w-2 c = search needs
 
--- src/opening.rt:39:21
 number-requires : tie.Need-number-requires
 number-requires c κs = search needs
 
--- src/opening.rt:12:1
 same-length : tie.Need-same-length
 same-length c = search needs
 
--- src/opening.rt:12:1
 same-length-2 : tie.Need-same-length-2
 same-length-2 c = search needs
 
--- src/opening.rt:12:1
 returns : tie.Need-returns
 returns c =
     let w = c .before .before .before .before .before .before .before .write-opening .ensures in
     let e = ap wrote (sym (c .before .w .given .1)) ∙ w .answer in
     record { answer = ap reply e; single = ap (λ o. given o (c .before .before .before .before .before .before .before .before .before .before .before .before .before .before .before .before .before .before .args .value .now)) e; result = w .result; cleared = w .work }
 
--- src/opening.rt:12:1
 same-length-3 : tie.Need-same-length-3
 same-length-3 c = search needs
 
--- src/opening.rt:12:1
 same-length-4 : tie.Need-same-length-4
 same-length-4 c = search needs
 
--- src/opening.rt:12:1
 returns-2 : tie.Need-returns-2
 returns-2 c =
     let w = c .before .before .before .before .before .before .before .before .write-opening .ensures in
