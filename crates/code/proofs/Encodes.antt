@@ -12,21 +12,21 @@ use Rattle.algebra.specs.Words.{𝔽₁}
 use Rattle.algebra.specs.WordLists.{low-words, elements, toWords, elements-words, length-elements}
 use Rattle.foldable.specs.Code.{encode}
 use Rattle.foldable.specs.Lift.{lift, lift-spread}
-use Rattle.job.specs.Outcome.{done, require-done, both-done}
+use Rattle.job.specs.Outcome.{done, require-done, both}
 use Rattle.job.specs.Limits.{blockSize}
 use Rattle.residue.specs.Residues.{F}
 use Rattle.residue.specs.Scans.{allBelow, all-below}
 use Rattle.code.specs.Lent.{lent}
 use Rattle.code.specs.Parameters.{limits, rowLengths, rowWords, row-lengths, lent-coding}
-use Rattle.code.specs.Encoding.{encodeLengths, encoding, Encodes}
+use Rattle.code.specs.Encoding.{encodeLengths, judgeEncoding, Encodes}
 use Rattle.code.specs.Steps.{Spreading, Lifting}
 use Rattle.code.proofs.Spreads.{length-spreaded, spreaded}
 
 -- the job's tests have passed
-pub encodes : (d c : ℕ) (g t t' m : List ℕ) (n : ℕ) → encoding d c g t t' m n ≡ done tt → Encodes d g t t' m n
-unfolding encoding encodeLengths
+pub encodes : (d c : ℕ) (g t t' m : List ℕ) (n : ℕ) → judgeEncoding d c g t t' m n ≡ done tt → Encodes d g t t' m n
+unfolding judgeEncoding encodeLengths
 encodes d c g t t' m n e =
-    let a = both-done (limits d c) e .0 in
+    let a = both (limits d c) e .1 in
     let b = require-done (encodeLengths d c (length g) (length t) (length t') (length m) n) 3 a in
     let k = require-done (rowWords g t t' && allBelow m) 4 (b .1) in
     let l = and-both (rowLengths d c (length g) (length t) (length t')) _ (b .0) in

@@ -21,16 +21,16 @@ unfoldable pub encodeLengths : ℕ → ℕ → ℕ → ℕ → ℕ → ℕ → �
 encodeLengths d c g t t' m n = rowLengths d c g t t' && (eqb m (2 ^ d) && eqb n (blockSize c d))
 
 -- the outcome, with a result of n words
-unfoldable pub encoding : ℕ → ℕ → List ℕ → List ℕ → List ℕ → List ℕ → ℕ → Outcome (Unit {0})
-encoding d c g t t' m n =
+unfoldable pub judgeEncoding : ℕ → ℕ → List ℕ → List ℕ → List ℕ → List ℕ → ℕ → Outcome (Unit {0})
+judgeEncoding d c g t t' m n =
     limits d c
     ⨾ require (encodeLengths d c (length g) (length t) (length t') (length m) n) 3
     ⨾ require (rowWords g t t' && allBelow m) 4 ⨾ legalRow g t t'
 
 -- answer r and result out: refused as above, and out as it was; or out is the message times the generator matrix
 pub record Encoded (d c : ℕ) (g t t' m old : List ℕ) (r : Answer) (out : List ℕ) : Type 0 where
-  pub answer : outcome r ≡ encoding d c g t t' m (length old)
-  pub result : out ≡ kept (encoding d c g t t' m (length old)) old (toWords 𝔽₁ (encode F (lent g t t') d (elements 𝔽₁ m)))
+  pub answer : outcome r ≡ judgeEncoding d c g t t' m (length old)
+  pub result : out ≡ kept (judgeEncoding d c g t t' m (length old)) old (toWords 𝔽₁ (encode F (lent g t t') d (elements 𝔽₁ m)))
 
 -- what the work is lent: exact lengths, words below the modulus, a legal row and diagonals
 pub record Encodes (d : ℕ) (g t t' m : List ℕ) (n : ℕ) : Type 0 where

@@ -8,14 +8,14 @@ use lib.ListN.{length}
 use borrow.Author.Tests.{eqb-true}
 use Rattle.algebra.specs.Tests.{and-both}
 use Rattle.algebra.specs.WordLists.{Low}
-use Rattle.job.specs.Outcome.{Outcome, done, must, must-done}
+use Rattle.job.specs.Outcome.{Outcome, done, require, _⨾_, require-done, held}
 use Rattle.job.specs.Limits.{depthOk, rateOk, diagonalsSize}
 use Rattle.residue.specs.Residues.{P}
 use Rattle.residue.specs.Scans.{allBelow, noneZero, allDiffer, all-below}
 use Rattle.code.specs.Lent.{Coding, coding}
 
 abbrev pub limits : ℕ → ℕ → Outcome (Unit {0})
-limits d c = must (depthOk d) 1 (must (rateOk c) 2 (done tt))
+limits d c = require (depthOk d) 1 ⨾ require (rateOk c) 2
 
 -- of the lengths of g, T and T'
 unfoldable pub rowLengths : ℕ → ℕ → ℕ → ℕ → ℕ → Bool
@@ -25,12 +25,12 @@ unfoldable pub rowWords : List ℕ → List ℕ → List ℕ → Bool
 rowWords g t t' = allBelow g && (allBelow t && allBelow t')
 
 abbrev pub legalRow : List ℕ → List ℕ → List ℕ → Outcome (Unit {0})
-legalRow g t t' = must (noneZero g) 5 (must (allDiffer t t') 6 (done tt))
+legalRow g t t' = require (noneZero g) 5 ⨾ require (allDiffer t t') 6
 
 pub within : (d c : ℕ) → done tt ≡ limits d c → (depthOk d ≡ true) × (rateOk c ≡ true)
 within d c e =
-    let a = must-done (depthOk d) 1 _ (sym e) in
-    (a .0, must-done (rateOk c) 2 _ (a .1) .0)
+    let a = require-done (depthOk d) 1 (sym e) in
+    (a .0, held (rateOk c) 2 (a .1))
 
 -- what the tests say
 pub record RowLengths (d c g t t' : ℕ) : Type 0 where
@@ -62,6 +62,5 @@ pub lent-coding : (d c : ℕ) (g t t' : List ℕ) → rowLengths d c (length g) 
 lent-coding d c g t t' p q r =
     let l = row-lengths d c (length g) (length t) (length t') p in
     let w = row-words g t t' q in
-    let s = must-done (noneZero g) 5 _ r in
-    let n = must-done (allDiffer t t') 6 _ (s .1) in
-    coding d g t t' (l .first ∙ ap (λ k. diagonalsSize k d) (sym (l .row))) (l .second ∙ ap (λ k. diagonalsSize k d) (sym (l .row))) (w .row) (w .first) (w .second) (n .0)
+    let n = held (allDiffer t t') 6 (require-done (noneZero g) 5 r .1) in
+    coding d g t t' (l .first ∙ ap (λ k. diagonalsSize k d) (sym (l .row))) (l .second ∙ ap (λ k. diagonalsSize k d) (sym (l .row))) (w .row) (w .first) (w .second) n

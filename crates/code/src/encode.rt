@@ -9,13 +9,12 @@ ghost use Rattle.job.specs.Outcome.{outcome};
 ghost use Rattle.job.specs.Limits.{depthOk, rateOk};
 ghost use Rattle.residue.specs.Residues.{F};
 ghost use Rattle.code.specs.Lent.{lent};
-ghost use Rattle.code.specs.Encoding.{encodeLengths, encoding, Encodes, Encoded};
+ghost use Rattle.code.specs.Encoding.{encodeLengths, judgeEncoding, Encodes, Encoded};
 use crate::lift;
 use crate::parameters;
 use crate::spread;
 use job::Answer;
 use job::Refusal;
-use residue::scan;
 
 // Into out, of exact lengths.
 pub fn encode_words(depth: u32, g: &[u32], t: &[u32], t2: &[u32], m: &[u32], out: &mut [u32])
@@ -40,7 +39,7 @@ fn lengths_ok(depth: u32, rate: u32, g: usize, t: usize, t2: usize, m: usize, ou
 }
 
 fn judge(depth: u32, rate: u32, g: &[u32], t: &[u32], t2: &[u32], m: &[u32], out: usize) -> Answer
-    ensures { λ r. ⌜ outcome r ≡ encoding depth rate (now (g .entry)) (now (t .entry)) (now (t2 .entry)) (now (m .entry)) out ⌝ }
+    ensures { λ r. ⌜ outcome r ≡ judgeEncoding depth rate (now (g .entry)) (now (t .entry)) (now (t2 .entry)) (now (m .entry)) out ⌝ }
 {
     let limits = parameters::limits(depth, rate);
     if let Answer::Refused(r) = limits {
@@ -49,13 +48,8 @@ fn judge(depth: u32, rate: u32, g: &[u32], t: &[u32], t2: &[u32], m: &[u32], out
     if !lengths_ok(depth, rate, g.len(), t.len(), t2.len(), m.len(), out) {
         return Answer::Refused(Refusal::Length);
     }
-    if !parameters::words_ok(g, t, t2) {
-        return Answer::Refused(Refusal::Word);
-    }
-    if !scan::all_below(m) {
-        return Answer::Refused(Refusal::Word);
-    }
-    parameters::legal(g, t, t2)
+    let words = parameters::all_words_ok(g, t, t2, m);
+    parameters::legal(words, g, t, t2)
 }
 
 pub fn encode(

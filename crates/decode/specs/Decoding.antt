@@ -9,7 +9,7 @@ use Rattle.algebra.specs.Words.{𝔽₁}
 use Rattle.algebra.specs.WordLists.{Low, elements}
 use Rattle.foldable.specs.Code.{encode, Codeword}
 use Rattle.job.specs.declared.Answer.{Answer}
-use Rattle.job.specs.Outcome.{Outcome, refused, done, outcome, must, _⨾_}
+use Rattle.job.specs.Outcome.{Outcome, refused, done, outcome, require, _⨾_}
 use Rattle.job.specs.Limits.{blockSize}
 use Rattle.residue.specs.Residues.{P, F}
 use Rattle.residue.specs.Scans.{allBelow}
@@ -21,12 +21,11 @@ unfoldable pub decodeLengths : ℕ → ℕ → ℕ → ℕ → ℕ → ℕ → �
 decodeLengths d c g t t' b m k = rowLengths d c g t t' && (eqb b (blockSize c d) && (eqb m (2 ^ d) && eqb k (blockSize c d)))
 
 -- the refusals 1 to 6, with a result of m words and a work buffer of k
-unfoldable pub decoding : ℕ → ℕ → List ℕ → List ℕ → List ℕ → List ℕ → ℕ → ℕ → Outcome (Unit {0})
-decoding d c g t t' b m k =
+unfoldable pub judgeDecoding : ℕ → ℕ → List ℕ → List ℕ → List ℕ → List ℕ → ℕ → ℕ → Outcome (Unit {0})
+judgeDecoding d c g t t' b m k =
     limits d c
-    ⨾ must (decodeLengths d c (length g) (length t) (length t') (length b) m k) 3
-    (must (rowWords g t t' && allBelow b) 4
-    (legalRow g t t'))
+    ⨾ require (decodeLengths d c (length g) (length t) (length t') (length b) m k) 3
+    ⨾ require (rowWords g t t' && allBelow b) 4 ⨾ legalRow g t t'
 
 -- answer r and result out for a block for which none of these is due: out is a message whose codeword it is; or it is no codeword, and out is as it was
 pub data Settled (d : ℕ) (g t t' b old : List ℕ) (r : Answer) (out : List ℕ) : Type 0 where
@@ -35,5 +34,5 @@ pub data Settled (d : ℕ) (g t t' b old : List ℕ) (r : Answer) (out : List �
 
 -- answer r, result out and work buffer work, which were old and space
 pub data Decoded (d c : ℕ) (g t t' b old space : List ℕ) (r : Answer) (out work : List ℕ) : Type 0 where
-  refusal : (n : ℕ) → decoding d c g t t' b (length old) (length space) ≡ refused n → outcome r ≡ refused n → out ≡ old → work ≡ space → Decoded d c g t t' b old space r out work
-  settled : decoding d c g t t' b (length old) (length space) ≡ done tt → Settled d g t t' b old r out → work ≡ replicate (length space) 0 → Decoded d c g t t' b old space r out work
+  refusal : (n : ℕ) → judgeDecoding d c g t t' b (length old) (length space) ≡ refused n → outcome r ≡ refused n → out ≡ old → work ≡ space → Decoded d c g t t' b old space r out work
+  settled : judgeDecoding d c g t t' b (length old) (length space) ≡ done tt → Settled d g t t' b old r out → work ≡ replicate (length space) 0 → Decoded d c g t t' b old space r out work

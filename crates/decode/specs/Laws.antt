@@ -20,58 +20,50 @@ use Rattle.job.specs.declared.Refusal.{Refusal}
 use Rattle.job.specs.declared.Refusal.the-variants.{Depth, Rate, Length, Word, BaseRow, Diagonals, Queries, NoCodeword, Clearance}
 use Rattle.job.specs.declared.Answer.{Answer}
 use Rattle.job.specs.declared.Answer.the-variants.{Done, Refused}
-use Rattle.job.specs.Outcome.{Outcome, refused, done, outcome, must, _⨾_, must-done}
+use Rattle.job.specs.Outcome.{Outcome, refused, done, outcome, require, _⨾_, require-done, held, both}
 use Rattle.job.specs.Limits.{deepest, depthOk, rateOk, blockSize, diagonalsSize, rate-least, rate-most}
 use Rattle.residue.specs.Residues.{P, F, K, el, inv}
 use Rattle.residue.specs.Scans.{allBelow, noneZero, allDiffer, all-below, none-zero, all-differ}
 use Rattle.code.specs.Lent.{lent}
 use Rattle.code.specs.Parameters.{limits, rowLengths, rowWords, within, row-lengths, lent-coding}
-use Rattle.decode.specs.Decoding.{decodeLengths, decoding, Settled, message, none, Decoded, refusal, settled}
+use Rattle.decode.specs.Decoding.{decodeLengths, judgeDecoding, Settled, message, none, Decoded, refusal, settled}
 use Rattle.decode.specs.Steps.{Decodes}
 
 infixr 71 _⊛_
 open Vectors (vectors K) using (_⊛_)
 
-both : {A : Type 0} (o : Outcome (Unit {0})) {next : Outcome A} {a : A} → o ⨾ next ≡ done a → (o ≡ done tt) × (next ≡ done a)
-both (refused n) e = absurd (let z : _≡_ {A = ℕ} 0 1 = cc in omega arith)
-both (done tt) e = (refl, e)
-
 -- refusals that are at most m
-must-most : {A : Type 0} (b : Bool) (k m : ℕ) {next : Outcome A} {n : ℕ} → k ≤ m → (next ≡ refused n → n ≤ m) → must b k next ≡ refused n → n ≤ m
-must-most true k m h f e = f e
-must-most false k m {n = n} h f e = let same : k ≡ n = cc in omega arith
+require-most : (b : Bool) (k m : ℕ) {n : ℕ} → k ≤ m → require b k ≡ refused n → n ≤ m
+require-most true k m h e = absurd (let z : _≡_ {A = ℕ} 0 1 = cc in omega arith)
+require-most false k m {n = n} h e = let same : k ≡ n = cc in omega arith
 
 after-most : {A B : Type 0} (o : Outcome A) (m : ℕ) {next : Outcome B} {n : ℕ} → (o ≡ refused n → n ≤ m) → (next ≡ refused n → n ≤ m) → o ⨾ next ≡ refused n → n ≤ m
 after-most (refused k) m {n = n} f g e = f (let same : k ≡ n = cc in ap refused same)
 after-most (done a) m f g e = g e
 
-done-most : {m n : ℕ} → _≡_ {A = Outcome (Unit {0})} (done tt) (refused n) → n ≤ m
-done-most e = absurd (let z : _≡_ {A = ℕ} 0 1 = cc in omega arith)
-
 -- the tests give the numbers 1 to 6
-decoding-most : (d c : ℕ) (g t t' b : List ℕ) (m k n : ℕ) → decoding d c g t t' b m k ≡ refused n → n ≤ 6
-unfolding decoding
+decoding-most : (d c : ℕ) (g t t' b : List ℕ) (m k n : ℕ) → judgeDecoding d c g t t' b m k ≡ refused n → n ≤ 6
+unfolding judgeDecoding
 decoding-most d c g t t' b m k n =
-    after-most (limits d c) 6 (must-most (depthOk d) 1 6 (omega arith) (must-most (rateOk c) 2 6 (omega arith) done-most))
-    (must-most (decodeLengths d c (length g) (length t) (length t') (length b) m k) 3 6 (omega arith)
-    (must-most (rowWords g t t' && allBelow b) 4 6 (omega arith)
-    (must-most (noneZero g) 5 6 (omega arith) (must-most (allDiffer t t') 6 6 (omega arith) done-most))))
+    after-most (limits d c) 6 (after-most (require (depthOk d) 1) 6 (require-most (depthOk d) 1 6 (omega arith)) (require-most (rateOk c) 2 6 (omega arith)))
+    (after-most (require (decodeLengths d c (length g) (length t) (length t') (length b) m k) 3) 6 (require-most (decodeLengths d c (length g) (length t) (length t') (length b) m k) 3 6 (omega arith))
+    (after-most (require (rowWords g t t' && allBelow b) 4) 6 (require-most (rowWords g t t' && allBelow b) 4 6 (omega arith))
+    (after-most (require (noneZero g) 5) 6 (require-most (noneZero g) 5 6 (omega arith)) (require-most (allDiffer t t') 6 6 (omega arith)))))
 
 -- no refusal from 1 to 6 is due
-pub decodes : (d c : ℕ) (g t t' b : List ℕ) (m k : ℕ) → decoding d c g t t' b m k ≡ done tt → Decodes d g t t' b k × (m ≡ 2 ^ d)
-unfolding decoding decodeLengths
+pub decodes : (d c : ℕ) (g t t' b : List ℕ) (m k : ℕ) → judgeDecoding d c g t t' b m k ≡ done tt → Decodes d g t t' b k × (m ≡ 2 ^ d)
+unfolding judgeDecoding decodeLengths
 decodes d c g t t' b m k e =
     let o = both (limits d c) e in
     let w = within d c (sym (o .0)) in
-    let s = must-done (decodeLengths d c (length g) (length t) (length t') (length b) m k) 3 _ (o .1) in
+    let s = require-done (decodeLengths d c (length g) (length t) (length t') (length b) m k) 3 (o .1) in
     let l = and-both (rowLengths d c (length g) (length t) (length t')) _ (s .0) in
     let l₂ = and-both (eqb (length b) (blockSize c d)) _ (l .1) in
     let l₃ = and-both (eqb m (2 ^ d)) _ (l₂ .1) in
     let r = row-lengths d c (length g) (length t) (length t') (l .0) in
-    let u = must-done (rowWords g t t' && allBelow b) 4 _ (s .1) in
+    let u = require-done (rowWords g t t' && allBelow b) 4 (s .1) in
     let v = and-both (rowWords g t t') _ (u .0) in
-    let x = must-done (noneZero g) 5 _ (u .1) in
-    let y = must-done (allDiffer t t') 6 _ (x .1) in
+    let x = require-done (noneZero g) 5 (u .1) in
     let lo : 2 ≤ length g = rw (r .row) (rate-least c (w .1)) in
     let same : (n : ℕ) → n ≡ blockSize c d → n ≡ blockSize (length g) d = λ n q. q ∙ ap (λ a. blockSize a d) (sym (r .row)) in
     let z : getD g 0 0 ≡ 0 → ⊥ = none-zero g (x .0) 0 (omega arith) in (
@@ -83,7 +75,7 @@ decodes d c g t t' b m k e =
         first = r .first ∙ ap (λ a. diagonalsSize a d) (sym (r .row));
         second = r .second ∙ ap (λ a. diagonalsSize a d) (sym (r .row));
         unit = omega arith;
-        apart = λ n h. all-differ t t' (y .0) n h (omega (arith, r .first, r .second));
+        apart = λ n h. all-differ t t' (held (allDiffer t t') 6 (x .1)) n h (omega (arith, r .first, r .second));
         size = same (length b) (eqb-true _ _ (l₂ .0));
         block = all-below b (v .1);
         work = same k (eqb-true _ _ (l₃ .1));
@@ -160,7 +152,7 @@ module _ (d c : ℕ) (g t t' b old space : List ℕ) where
   Result r out work = Decoded d c g t t' b old space r out work
 
   abbrev judged : Outcome (Unit {0})
-  judged = decoding d c g t t' b (length old) (length space)
+  judged = judgeDecoding d c g t t' b (length old) (length space)
 
   known : judged ≡ done tt → Decodes d g t t' b (length space)
   known e = decodes d c g t t' b (length old) (length space) e .0

@@ -1,5 +1,5 @@
 -- Decoding.
---     Decoding    the job: decoding, Settled, Decoded
+--     Decoding    the job: judgeDecoding, Settled, Decoded
 --     Laws        the contract determines answer and buffers, and a message is given exactly where the block is a codeword
 --     Steps       what the steps are lent, and what they leave
 pub mod Decoding

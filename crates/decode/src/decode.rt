@@ -10,7 +10,7 @@ ghost use Rattle.job.specs.Outcome.{outcome};
 ghost use Rattle.job.specs.Limits.{depthOk, rateOk};
 ghost use Rattle.residue.specs.Residues.{F};
 ghost use Rattle.code.specs.Lent.{lent};
-ghost use Rattle.decode.specs.Decoding.{decodeLengths, decoding, Settled, Decoded};
+ghost use Rattle.decode.specs.Decoding.{decodeLengths, judgeDecoding, Settled, Decoded};
 ghost use Rattle.decode.specs.Steps.{allSame, decoded, Decodes};
 use crate::again;
 use crate::message;
@@ -18,7 +18,6 @@ use crate::same;
 use code::parameters;
 use job::Answer;
 use job::Refusal;
-use residue::scan;
 use residue::words;
 
 // Whether the block is the codeword of the only message that it allows.
@@ -112,7 +111,7 @@ fn judge(
     out: usize,
     work: usize,
 ) -> Answer
-    ensures { λ r. ⌜ outcome r ≡ decoding depth rate (now (g .entry)) (now (t .entry)) (now (t2 .entry)) (now (block .entry)) out work ⌝ }
+    ensures { λ r. ⌜ outcome r ≡ judgeDecoding depth rate (now (g .entry)) (now (t .entry)) (now (t2 .entry)) (now (block .entry)) out work ⌝ }
 {
     let limits = parameters::limits(depth, rate);
     if let Answer::Refused(r) = limits {
@@ -130,13 +129,8 @@ fn judge(
     ) {
         return Answer::Refused(Refusal::Length);
     }
-    if !parameters::words_ok(g, t, t2) {
-        return Answer::Refused(Refusal::Word);
-    }
-    if !scan::all_below(block) {
-        return Answer::Refused(Refusal::Word);
-    }
-    parameters::legal(g, t, t2)
+    let words = parameters::all_words_ok(g, t, t2, block);
+    parameters::legal(words, g, t, t2)
 }
 
 pub fn decode(

@@ -11,12 +11,12 @@ use Rattle.algebra.specs.Tests.{and-both}
 use Rattle.algebra.specs.WordLists.{Low}
 use Rattle.foldable.specs.Encode.{double}
 use Rattle.job.specs.Limits.{deepest, rateOk, blockSize}
-use Rattle.job.specs.Outcome.{refused, done, must-done, outcome, kept}
+use Rattle.job.specs.Outcome.{refused, done, require-done, held, outcome, kept}
 use Rattle.job.specs.declared.Refusal.{Refusal}
 use Rattle.job.specs.declared.Answer.the-variants.{Done, Refused}
 use Rattle.residue.specs.Residues.{P}
 use Rattle.residue.specs.Scans.{allBelow, allDiffer, all-below, all-differ}
-use Rattle.fold.specs.Job.{levelOk, lengthsOk, wordsOk, due, foldWords, Folded}
+use Rattle.fold.specs.Job.{levelOk, lengthsOk, wordsOk, judgeFolding, foldWords, Folded}
 use Rattle.fold.specs.Steps.{Diagonals}
 
 pub level-bounds : (level : ℕ) → levelOk level ≡ true → (1 ≤ level) × (level ≤ deepest)
@@ -47,32 +47,32 @@ twice rate level h = let up : level ≡ suc (level - 1) = omega arith in ap (λ 
 
 module _ (level rate : ℕ) (t t2 block : List ℕ) (a out : ℕ) where
   -- the outcome, by the first test that fails
-  pub due-1 : levelOk level ≡ false → refused 1 ≡ due level rate t t2 block a out
-  unfolding due
+  pub due-1 : levelOk level ≡ false → refused 1 ≡ judgeFolding level rate t t2 block a out
+  unfolding judgeFolding
   due-1 e = sym (rw e)
 
-  pub due-2 : levelOk level ≡ true → rateOk rate ≡ false → refused 2 ≡ due level rate t t2 block a out
-  unfolding due
+  pub due-2 : levelOk level ≡ true → rateOk rate ≡ false → refused 2 ≡ judgeFolding level rate t t2 block a out
+  unfolding judgeFolding
   due-2 e f = sym (rw (e, f))
 
   pub due-3 : levelOk level ≡ true → rateOk rate ≡ true → lengthsOk level rate (length t) (length t2) (length block) out ≡ false
-      → refused 3 ≡ due level rate t t2 block a out
-  unfolding due
+      → refused 3 ≡ judgeFolding level rate t t2 block a out
+  unfolding judgeFolding
   due-3 e f g = sym (rw (e, f, g))
 
   pub due-4 : levelOk level ≡ true → rateOk rate ≡ true → lengthsOk level rate (length t) (length t2) (length block) out ≡ true
-      → wordsOk t t2 block a ≡ false → refused 4 ≡ due level rate t t2 block a out
-  unfolding due
+      → wordsOk t t2 block a ≡ false → refused 4 ≡ judgeFolding level rate t t2 block a out
+  unfolding judgeFolding
   due-4 e f g h = sym (rw (e, f, g, h))
 
   pub due-6 : levelOk level ≡ true → rateOk rate ≡ true → lengthsOk level rate (length t) (length t2) (length block) out ≡ true
-      → wordsOk t t2 block a ≡ true → allDiffer t t2 ≡ false → refused 6 ≡ due level rate t t2 block a out
-  unfolding due
+      → wordsOk t t2 block a ≡ true → allDiffer t t2 ≡ false → refused 6 ≡ judgeFolding level rate t t2 block a out
+  unfolding judgeFolding
   due-6 e f g h i = sym (rw (e, f, g, h, i))
 
   pub due-none : levelOk level ≡ true → rateOk rate ≡ true → lengthsOk level rate (length t) (length t2) (length block) out ≡ true
-      → wordsOk t t2 block a ≡ true → allDiffer t t2 ≡ true → done tt ≡ due level rate t t2 block a out
-  unfolding due
+      → wordsOk t t2 block a ≡ true → allDiffer t t2 ≡ true → done tt ≡ judgeFolding level rate t t2 block a out
+  unfolding judgeFolding
   due-none e f g h i = sym (rw (e, f, g, h, i))
 
   -- what holds where none does
@@ -83,14 +83,14 @@ module _ (level rate : ℕ) (t t2 block : List ℕ) (a out : ℕ) where
     pub challenge : a < P
     pub size : out ≡ blockSize rate (level - 1)
 
-  pub ready : due level rate t t2 block a out ≡ done tt → Ready
-  unfolding due wordsOk
+  pub ready : judgeFolding level rate t t2 block a out ≡ done tt → Ready
+  unfolding judgeFolding wordsOk
   ready e =
-      let level-passes = must-done (levelOk level) _ _ e in
-      let rate-passes = must-done (rateOk rate) _ _ (level-passes .1) in
-      let lengths-pass = must-done (lengthsOk level rate (length t) (length t2) (length block) out) _ _ (rate-passes .1) in
-      let words-pass = must-done (wordsOk t t2 block a) _ _ (lengths-pass .1) in
-      let differ = must-done (allDiffer t t2) _ _ (words-pass .1) in
+      let level-passes = require-done (levelOk level) 1 e in
+      let rate-passes = require-done (rateOk rate) 2 (level-passes .1) in
+      let lengths-pass = require-done (lengthsOk level rate (length t) (length t2) (length block) out) 3 (rate-passes .1) in
+      let words-pass = require-done (wordsOk t t2 block a) 4 (lengths-pass .1) in
+      let differ = held (allDiffer t t2) 6 (words-pass .1) in
       let l = lengths level rate _ _ _ _ (lengths-pass .0) in
       let first = and-both (allBelow t) _ (words-pass .0) in
       let second = and-both (allBelow t2) _ (first .1) in
@@ -102,7 +102,7 @@ module _ (level rate : ℕ) (t t2 block : List ℕ) (a out : ℕ) where
           second = l .second ∙ sym n;
           low = all-below t (first .0);
           low2 = all-below t2 (second .0);
-          differ = λ k h. all-differ t t2 (differ .0) k (omega (arith, l .first)) (omega (arith, l .second));
+          differ = λ k h. all-differ t t2 differ k (omega (arith, l .first)) (omega (arith, l .second));
         };
         whole = l .whole ∙ twice rate level (level-bounds level (level-passes .0) .0) ∙ ap (λ m. m + m) (sym n);
         low = all-below block (third .0);
@@ -115,7 +115,7 @@ module _ (level rate : ℕ) (t t2 block : List ℕ) (a : ℕ) (old : List ℕ) w
   wanted : List ℕ
   wanted = foldWords (blockSize rate (level - 1)) t t2 block a
 
-  pub folded-done : {new : List ℕ} → due level rate t t2 block a (length old) ≡ done tt → new ≡ foldWords (length old) t t2 block a
+  pub folded-done : {new : List ℕ} → judgeFolding level rate t t2 block a (length old) ≡ done tt → new ≡ foldWords (length old) t t2 block a
       → Folded level rate t t2 block a old Done new
   unfolding wanted
   folded-done e p = record {
@@ -124,6 +124,6 @@ module _ (level rate : ℕ) (t t2 block : List ℕ) (a : ℕ) (old : List ℕ) w
         p ∙ ap (λ n. foldWords n t t2 block a) (ready level rate t t2 block a (length old) e .size) ∙ sym (ap (λ o. kept o old wanted) e);
   }
 
-  pub folded-refused : (x : Refusal) → outcome (Refused x) ≡ due level rate t t2 block a (length old) → Folded level rate t t2 block a old (Refused x) old
+  pub folded-refused : (x : Refusal) → outcome (Refused x) ≡ judgeFolding level rate t t2 block a (length old) → Folded level rate t t2 block a old (Refused x) old
   unfolding wanted
   folded-refused x e = record { answer = e; result = ap (λ o. kept o old wanted) e }

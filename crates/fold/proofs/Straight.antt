@@ -18,9 +18,9 @@ use Rattle.fold.proofs.Elements.{stands, elements-differ}
 use Rattle.fold.proofs.Chains.{getD-rows}
 
 -- one place of a line, from its words
-pub line-word : (a t s u v : ℕ) {d m r : ℕ} → d ≡ word (el a ⊟ el t) → m ≡ word (el s ⊠ (el v ⊟ el u)) → r ≡ word (el u ⊞ el d ⊠ el m)
+pub line-word : (a t s u v : ℕ) {d b m r : ℕ} → d ≡ word (el a ⊟ el t) → b ≡ word (el v ⊟ el u) → m ≡ word (el s ⊠ el b) → r ≡ word (el u ⊞ el d ⊠ el m)
     → r ≡ word (through (el a) (el t) (el s) (el u) (el v))
-line-word a t s u v p q e = e ∙ ap₂ (λ x y. word (el u ⊞ x ⊠ y)) (stands _ p) (stands _ q)
+line-word a t s u v p q m e = e ∙ ap₂ (λ x y. word (el u ⊞ x ⊠ y)) (stands _ p) (stands _ m ∙ ap (λ y. el s ⊠ y) (stands _ q))
 
 module _ {n : ℕ} {t t2 : List ℕ} (D : Diagonals n t t2) (w : List ℕ) (sized : length w ≡ n + n) (a : ℕ) where
   apart : Differ (elements 𝔽₁ t) (elements 𝔽₁ t2)

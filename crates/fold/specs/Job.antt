@@ -9,7 +9,7 @@ use Rattle.algebra.specs.Words.{𝔽₁}
 use Rattle.algebra.specs.WordLists.{elements, toWords}
 use Rattle.foldable.specs.Code.{foldAlong}
 use Rattle.job.specs.Limits.{deepest, rateOk, blockSize}
-use Rattle.job.specs.Outcome.{Outcome, done, must, kept, outcome}
+use Rattle.job.specs.Outcome.{Outcome, require, _⨾_, kept, outcome}
 use Rattle.job.specs.declared.Answer.{Answer}
 use Rattle.residue.specs.Residues.{P, F, el}
 use Rattle.residue.specs.Scans.{allBelow, allDiffer}
@@ -30,14 +30,11 @@ unfoldable pub wordsOk : List ℕ → List ℕ → List ℕ → ℕ → Bool
 wordsOk t t2 block a = allBelow t && (allBelow t2 && (allBelow block && ltb a P))
 
 -- the outcome that is due
-unfoldable pub due : ℕ → ℕ → List ℕ → List ℕ → List ℕ → ℕ → ℕ → Outcome (Unit {0})
-due level rate t t2 block a out =
-    must (levelOk level) 1
-    (must (rateOk rate) 2
-    (must (lengthsOk level rate (length t) (length t2) (length block) out) 3
-    (must (wordsOk t t2 block a) 4
-    (must (allDiffer t t2) 6
-    (done tt)))))
+unfoldable pub judgeFolding : ℕ → ℕ → List ℕ → List ℕ → List ℕ → ℕ → ℕ → Outcome (Unit {0})
+judgeFolding level rate t t2 block a out =
+    require (levelOk level) 1 ⨾ require (rateOk rate) 2
+    ⨾ require (lengthsOk level rate (length t) (length t2) (length block) out) 3
+    ⨾ require (wordsOk t t2 block a) 4 ⨾ require (allDiffer t t2) 6
 
 -- the words of the fold by a, for diagonals and a result of n words
 abbrev pub foldWords : ℕ → List ℕ → List ℕ → List ℕ → ℕ → List ℕ
@@ -45,5 +42,5 @@ foldWords n t t2 block a = toWords 𝔽₁ (foldAlong F n (el a) (elements 𝔽�
 
 -- the answer r, and the result, which held old
 pub record Folded (level rate : ℕ) (t t2 block : List ℕ) (a : ℕ) (old : List ℕ) (r : Answer) (out : List ℕ) : Type 0 where
-  pub answer : outcome r ≡ due level rate t t2 block a (length old)
-  pub result : out ≡ kept (due level rate t t2 block a (length old)) old (foldWords (blockSize rate (level - 1)) t t2 block a)
+  pub answer : outcome r ≡ judgeFolding level rate t t2 block a (length old)
+  pub result : out ≡ kept (judgeFolding level rate t t2 block a (length old)) old (foldWords (blockSize rate (level - 1)) t t2 block a)

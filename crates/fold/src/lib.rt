@@ -6,7 +6,7 @@ ghost use Rattle.algebra.specs.WordLists.{Low};
 ghost use Rattle.job.specs.Limits.{deepest, widest};
 ghost use Rattle.job.specs.Outcome.{outcome};
 ghost use Rattle.residue.specs.Residues.{P};
-ghost use Rattle.fold.specs.Job.{levelOk, lengthsOk, wordsOk, due, foldWords, Folded};
+ghost use Rattle.fold.specs.Job.{levelOk, lengthsOk, wordsOk, judgeFolding, foldWords, Folded};
 ghost use Rattle.fold.specs.Steps.{Diagonals};
 use job::Answer;
 use job::Refusal;
@@ -69,7 +69,7 @@ fn judge(
     challenge: u32,
     out: usize,
 ) -> Answer
-    ensures { λ r. ⌜ outcome r ≡ due level rate (now (t .entry)) (now (t2 .entry)) (now (block .entry)) challenge out ⌝ }
+    ensures { λ r. ⌜ outcome r ≡ judgeFolding level rate (now (t .entry)) (now (t2 .entry)) (now (block .entry)) challenge out ⌝ }
 {
     if !level_ok(level) {
         return Answer::Refused(Refusal::Depth);

@@ -7,7 +7,6 @@ ghost use Rattle.algebra.specs.Words.{𝔽₁};
 ghost use Rattle.algebra.specs.WordLists.{Low, toWords};
 ghost use Rattle.residue.specs.Residues.{P, el, word};
 ghost use Rattle.fold.specs.Steps.{through, throughAll};
-use crate::words::times_difference;
 use residue::word;
 
 // The value at a of the line through (t, u) and (t', v), where s is the inverse of t' - t.
@@ -15,7 +14,7 @@ fn line(a: u32, t: u32, s: u32, u: u32, v: u32) -> u32
     requires { ⌜ (a < P) × (t < P) × (s < P) × (u < P) × (v < P) ⌝ }
     ensures { λ r. ⌜ r ≡ word (through (el a) (el t) (el s) (el u) (el v)) ⌝ }
 {
-    word::plus_product(u, word::minus(a, t), times_difference(s, v, u))
+    word::plus_product(u, word::minus(a, t), word::times(s, word::minus(v, u)))
 }
 
 // Each inverse in out gives way to its line's value.

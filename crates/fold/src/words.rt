@@ -6,11 +6,19 @@ ghost use Rattle.fold.specs.Steps.{Invertible};
 use residue::Residue;
 use residue::word;
 
-pub fn times_difference(x: u32, a: u32, b: u32) -> u32
-    requires { ⌜ (x < P) × (a < P) × (b < P) ⌝ }
-    ensures { λ r. ⌜ r ≡ word (el x ⊠ (el a ⊟ el b)) ⌝ }
+// T' - T at one place: what the slope of its line is divided by.
+pub fn gap(t: u32, t2: u32) -> u32
+    requires { ⌜ (t < P) × (t2 < P) ⌝ }
+    ensures { λ r. ⌜ r ≡ word (el t2 ⊟ el t) ⌝ }
 {
-    word::times(x, word::minus(a, b))
+    word::minus(t2, t)
+}
+
+pub fn times_gap(x: u32, t: u32, t2: u32) -> u32
+    requires { ⌜ (x < P) × (t < P) × (t2 < P) ⌝ }
+    ensures { λ r. ⌜ r ≡ word (el x ⊠ (el t2 ⊟ el t)) ⌝ }
+{
+    word::times(x, gap(t, t2))
 }
 
 pub fn inverse(a: u32) -> u32

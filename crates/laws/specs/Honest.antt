@@ -1,5 +1,5 @@
 -- What encoding, writing and verifying leave, one after the other on the same buffers: accepted. Assumes nothing.
-use mathlib.Core.Path.{_≡_, refl, ap, ap₂, _∙_}
+use mathlib.Core.Path.{_≡_, ap, ap₂, _∙_}
 use mathlib.Core.Bool.{true, _&&_}
 use mathlib.Core.List.{List}
 use Prim.Native.Nat.{ℕ, _^_}
@@ -9,13 +9,13 @@ use lib.ListN.{length}
 use borrow.Author.Tests.{eqb-true}
 use Rattle.algebra.specs.Tests.{and-both}
 use Rattle.algebra.specs.WordLists.{Low}
-use Rattle.job.specs.Outcome.{Outcome, refused, done, require-done, kept, _⨾_}
+use Rattle.job.specs.Outcome.{refused, done, require-done, kept, _⨾_, both}
 use Rattle.job.specs.Limits.{blockSize}
 use Rattle.residue.specs.Residues.{P}
 use Rattle.residue.specs.Scans.{allBelow, all-below}
 use Rattle.code.specs.Parameters.{limits, rowLengths, rowWords, legalRow}
-use Rattle.code.specs.Encoding.{encodeLengths, encoding}
-use Rattle.open.specs.Writing.{judged, writeLengths, inputLengths, bufferLengths, inputWords, valueWord, openingWords}
+use Rattle.code.specs.Encoding.{encodeLengths, judgeEncoding}
+use Rattle.open.specs.Writing.{judgeWriting, writeLengths, inputLengths, bufferLengths, inputWords, valueWord, openingWords}
 use Rattle.verify.specs.Verdicts.{numbers, numbersOf}
 use Rattle.verify.specs.Verifying.{queriesOk, verification}
 use Rattle.verify.specs.declared.Verdict.{Verdict}
@@ -24,21 +24,17 @@ use Rattle.laws.specs.Openings.{opening-accepted}
 
 -- no refusal is due, with a block of n words, an opening of o and a work buffer of s
 pub record Fine (d c : ℕ) (g t t' m z r us : List ℕ) (n o s : ℕ) : Type 0 where
-  pub encodes : encoding d c g t t' m n ≡ done tt
-  pub writes : judged d c g t t' m z r o s ≡ done tt
+  pub encodes : judgeEncoding d c g t t' m n ≡ done tt
+  pub writes : judgeWriting d c g t t' m z r o s ≡ done tt
   pub asks : queriesOk d c us ≡ true
 
 abbrev pub Accepted : (d c : ℕ) (g t t' m z r us : List ℕ) (n o s : ℕ) → Verdict → Type 0
 Accepted d c g t t' m z r us n o s v = Fine d c g t t' m z r us n o s → numbers v ≡ (0, 0, 0)
 
-both : {A : Type 0} (o : Outcome (Unit {0})) {next : Outcome A} {a : A} → o ⨾ next ≡ done a → (o ≡ done tt) × (next ≡ done a)
-both (refused n) e = absurd (let z : _≡_ {A = ℕ} 0 1 = cc in omega arith)
-both (done tt) e = (refl, e)
-
 module _ {d c : ℕ} {g t t' m z r us : List ℕ} {n o s : ℕ} (𝓕 : Fine d c g t t' m z r us n o s) where
   within : (limits d c ≡ done tt) × (encodeLengths d c (length g) (length t) (length t') (length m) n ≡ true)
       × (rowWords g t t' && allBelow m ≡ true) × (legalRow g t t' ≡ done tt)
-  unfolding encoding
+  unfolding judgeEncoding
   within =
       let a = both (limits d c) (𝓕 .encodes) in
       let b = require-done (encodeLengths d c (length g) (length t) (length t') (length m) n) 3 (a .1) in
@@ -55,7 +51,7 @@ module _ {d c : ℕ} {g t t' m z r us : List ℕ} {n o s : ℕ} (𝓕 : Fine d c
   lent-row = record { within = within .0; lengths = sizes .0; words = and-both (rowWords g t t') (allBelow m) (within .2) .0; legal = within .3 }
 
   asked : (length z ≡ d) × (length r ≡ d) × Low P z × Low P r
-  unfolding judged writeLengths inputLengths inputWords
+  unfolding judgeWriting writeLengths inputLengths inputWords
   asked =
       let a = both (limits d c) (𝓕 .writes) in
       let b = require-done (writeLengths d c (length g) (length t) (length t') (length m) (length z) (length r) o s) 3 (a .1) in
@@ -66,8 +62,8 @@ module _ {d c : ℕ} {g t t' m z r us : List ℕ} {n o s : ℕ} (𝓕 : Fine d c
       (eqb-true _ _ (zr .0), eqb-true _ _ (zr .1), all-below z (w .0), all-below r (w .1))
 
   -- the block, the value and the opening as they were left
-  pub accepted : (old before : List ℕ) {block opening : List ℕ} {y : ℕ} → block ≡ kept (encoding d c g t t' m n) old (encoded d g t t' m)
-      → opening ≡ kept (judged d c g t t' m z r o s) before (openingWords g t t' m z r) → done y ≡ judged d c g t t' m z r o s ⨾ done (valueWord m z)
+  pub accepted : (old before : List ℕ) {block opening : List ℕ} {y : ℕ} → block ≡ kept (judgeEncoding d c g t t' m n) old (encoded d g t t' m)
+      → opening ≡ kept (judgeWriting d c g t t' m z r o s) before (openingWords g t t' m z r) → done y ≡ judgeWriting d c g t t' m z r o s ⨾ done (valueWord m z)
       → numbersOf (verification d c g t t' block z y r us opening) ≡ (0, 0, 0)
   accepted old before {block} {opening} {y} p q e =
       let b = p ∙ ap (λ x. kept x old (encoded d g t t' m)) (𝓕 .encodes) in
@@ -77,7 +73,7 @@ module _ {d c : ℕ} {g t t' m z r us : List ℕ} {n o s : ℕ} (𝓕 : Fine d c
       ∙ opening-accepted d c g t t' lent-row m z r us (sizes .1) (asked .0) (asked .1) (asked .2) (asked .3) (𝓕 .asks) y cc
 
   -- writing does not refuse
-  pub not-refused : {k : ℕ} → refused k ≡ judged d c g t t' m z r o s ⨾ done (valueWord m z) → ⊥
+  pub not-refused : {k : ℕ} → refused k ≡ judgeWriting d c g t t' m z r o s ⨾ done (valueWord m z) → ⊥
   not-refused {k} e =
       let v : refused k ≡ done (valueWord m z) = e ∙ ap (λ x. x ⨾ done (valueWord m z)) (𝓕 .writes) in
       let x : _≡_ {A = ℕ} 0 1 = cc in omega arith

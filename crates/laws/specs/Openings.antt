@@ -1,13 +1,13 @@
 -- An opening written from any message, verified with the message's codeword, the same point and challenges and any legal queries, is accepted
 -- with f(z), and with every other claimed value fails: 20 with i = d, at depth 0 with 21. Assumes nothing.
 use mathlib.Core.Path.{_≡_, refl, sym, ap, ap₂, _∙_}
-use mathlib.Core.Bool.{Bool, true, _&&_}
+use mathlib.Core.Bool.{true, _&&_}
 use mathlib.Core.List.{List, [], _∷_}
 use mathlib.Core.Option.{Option, none, some}
 use Prim.Native.Nat.{ℕ, zero, suc, _+_, _*_, _^_, _<_}
 use native.Mathlib.Nat.{one-mul, zero-add}
 use native.Mathlib.Omega.{arith}
-use lib.Dec.{eqb, leb, ltb}
+use lib.Dec.{leb, ltb}
 use lib.ListN.{length}
 use borrow.Author.Tests.{eq-eqb, eqb-true, lt-ltb, ltb-true}
 use Rattle.algebra.specs.Half.{two₁}
@@ -20,16 +20,15 @@ use Rattle.basefold.specs.Written.{opening}
 use Rattle.basefold.specs.Honest.{Queries, honest-accepted, honest-fails}
 use Rattle.foldable.specs.Code.{encode, dim, Legal}
 use Rattle.foldable.specs.Encode.{length-encode}
-use Rattle.job.specs.Outcome.{Outcome, done, require, _⨾_}
+use Rattle.job.specs.Outcome.{done, _⨾_}
 use Rattle.job.specs.Limits.{blockSize}
 use Rattle.multilinear.specs.Polynomial.{poly}
 use Rattle.residue.specs.Residues.{P, F, K, el, word}
-use Rattle.residue.specs.Scans.{allBelow, below-all}
+use Rattle.residue.specs.Scans.{below-all}
 use Rattle.code.specs.Lent.{lent, Coding}
-use Rattle.code.specs.Parameters.{limits, rowLengths, rowWords, legalRow}
 use Rattle.open.specs.Laws.{length-opening}
 use Rattle.verify.specs.Verdicts.{Numbers, numbersOf}
-use Rattle.verify.specs.Verifying.{most, openedLengths, openedWords, queriesOk, judgement, verification}
+use Rattle.verify.specs.Verifying.{most, openedLengths, openedWords, queriesOk, judgeVerifying, verification}
 use Rattle.laws.specs.Calls.{LegalRow, coding-of, lengths-of, encoded}
 
 -- what writing an opening writes, and the value that it returns
@@ -90,8 +89,8 @@ module _ (d c : ℕ) (g t t' : List ℕ) (𝓡 : LegalRow d c g t t') (m z r us 
   length-o = length-words 𝔽₁ _ ∙ length-opening F 0 (lent g t t') _ _ _ legal ∙ ap₂ (λ n k. openingSize n 0 k) (length-elements 𝔽₁ g ∙ rate) depth
 
   -- nothing is refused
-  fine : (y : ℕ) → y < P → judgement d c g t t' w z y r us o ≡ done tt
-  unfolding judgement openedLengths openedWords
+  fine : (y : ℕ) → y < P → judgeVerifying d c g t t' w z y r us o ≡ done tt
+  unfolding judgeVerifying openedLengths openedWords
   fine y h =
       rw (
         𝓡 .within,

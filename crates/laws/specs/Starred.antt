@@ -39,9 +39,9 @@ use Rattle.table.specs.Jobs.{MessageOf}
 use Rattle.table.specs.Depth.{exponentTo}
 use Rattle.code.specs.Lent.{lent, diagonal}
 use Rattle.code.specs.Parameters.{rowLengths, rowWords}
-use Rattle.decode.specs.Decoding.{decoding, decodeLengths, Decoded, settled, message, none}
+use Rattle.decode.specs.Decoding.{judgeDecoding, decodeLengths, Decoded, settled, message, none}
 use Rattle.verify.specs.Verdicts.{Numbers, numbersOf}
-use Rattle.verify.specs.Verifying.{verification, judgement, openedLengths, openedWords, queriesOk}
+use Rattle.verify.specs.Verifying.{verification, judgeVerifying, openedLengths, openedWords, queriesOk}
 use Rattle.laws.specs.Calls.{LegalRow, encoded, folded}
 use Rattle.laws.specs.Folds.{fold-law}
 use Rattle.laws.specs.Openings.{written, valueAt, opening-accepted, opening-fails}
@@ -166,17 +166,17 @@ no-codeword c = go (c .message) (c .sized) (c .encodes)
     go (a ∷ b ∷ []) s e = not-both a b e
     go (a ∷ b ∷ x ∷ l) s e = omega arith
 
-nothing-due : (b old space : List ℕ) → length old ≡ 2 → length space ≡ 4 → decoding 1 2 g t t' b 2 4 ≡ done tt → decoding 1 2 g t t' b (length old) (length space) ≡ done tt
+nothing-due : (b old space : List ℕ) → length old ≡ 2 → length space ≡ 4 → judgeDecoding 1 2 g t t' b 2 4 ≡ done tt → judgeDecoding 1 2 g t t' b (length old) (length space) ≡ done tt
 nothing-due b old space p q e = rw (p, q) e
 
 decodes-w : Holds (decodes w m)
-unfolding decoding decodeLengths rowLengths rowWords rateOk all all₂ F₁ W₁ elements toWords diagonal encode generator block times zip of addZ mulZ
+unfolding judgeDecoding decodeLengths rowLengths rowWords rateOk all all₂ F₁ W₁ elements toWords diagonal encode generator block times zip of addZ mulZ
 decodes-w old space p q =
     settled (nothing-due w old space p q refl)
     (message refl refl (low-cons (lit< tt) (low-cons (lit< tt) (low-none P))) (sym (elements-words 𝔽₁ _) ∙ ap (elements 𝔽₁) encodes)) refl
 
 refuses-spoilt : Holds (refuses spoilt)
-unfolding decoding decodeLengths rowLengths rowWords rateOk all all₂
+unfolding judgeDecoding decodeLengths rowLengths rowWords rateOk all all₂
 refuses-spoilt old space p q = settled (nothing-due spoilt old space p q refl) (none refl no-codeword refl) refl
 
 low-1 : (x : ℕ) → x < P → Low P (x ∷ [])
@@ -245,7 +245,7 @@ first-spoilt =
     zero = res-path refl
 
 spoilt-0 : verdict 0 5 1 (0 ∷ []) (5 ∷ 0 ∷ 2147483628 ∷ 13 ∷ 13 ∷ 13 ∷ []) ≡ (23, 0, 0)
-unfolding verification judgement openedLengths openedWords queriesOk rowLengths rowWords rateOk all all₂
+unfolding verification judgeVerifying openedLengths openedWords queriesOk rowLengths rowWords rateOk all all₂
 spoilt-0 = ap (λ v. numbersOf (done v)) first-spoilt
 
 -- the claim

@@ -12,13 +12,13 @@ use borrow.Author.Tests.{eqb-true, leb-true}
 use Rattle.algebra.specs.Tests.{and-both}
 use Rattle.algebra.specs.WordLists.{Low}
 use Rattle.basefold.specs.Layout.{finalAt, openingSize}
-use Rattle.job.specs.Outcome.{Outcome, refused, done, _⨾_, require-done, both-done}
+use Rattle.job.specs.Outcome.{Outcome, refused, done, _⨾_, require-done, both}
 use Rattle.job.specs.Limits.{rate-most}
 use Rattle.polynomial.specs.Evaluation.{Evaluates}
 use Rattle.residue.specs.Residues.{P}
 use Rattle.residue.specs.Scans.{allBelow, all-below}
 use Rattle.code.specs.Parameters.{limits, within, rowLengths, rowWords, row-lengths, lent-coding}
-use Rattle.open.specs.Writing.{inputLengths, bufferLengths, writeLengths, inputWords, judged, Writes}
+use Rattle.open.specs.Writing.{inputLengths, bufferLengths, writeLengths, inputWords, judgeWriting, Writes}
 
 -- the first of two outcomes, where both are done
 first-done : {B : Type 0} (o : Outcome (Unit {0})) (next : Outcome B) {b : B} → o ⨾ next ≡ done b → done tt ≡ o
@@ -26,11 +26,11 @@ first-done (refused n) next e = absurd (let z : _≡_ {A = ℕ} 0 1 = cc in omeg
 first-done (done a) next e = refl
 
 -- the job's tests have passed
-pub writes : (d c : ℕ) (g t t' m z r : List ℕ) (o s : ℕ) → judged d c g t t' m z r o s ≡ done tt → Writes d g t t' m z r o s
-unfolding judged writeLengths inputLengths bufferLengths inputWords
+pub writes : (d c : ℕ) (g t t' m z r : List ℕ) (o s : ℕ) → judgeWriting d c g t t' m z r o s ≡ done tt → Writes d g t t' m z r o s
+unfolding judgeWriting writeLengths inputLengths bufferLengths inputWords
 writes d c g t t' m z r o s e =
     let i = within d c (first-done (limits d c) _ e) in
-    let a = both-done (limits d c) e .0 in
+    let a = both (limits d c) e .1 in
     let b = require-done (writeLengths d c (length g) (length t) (length t') (length m) (length z) (length r) o s) 3 a in
     let k = require-done (rowWords g t t' && inputWords m z r) 4 (b .1) in
     let l = and-both (rowLengths d c (length g) (length t) (length t')) _ (b .0) in

@@ -1,5 +1,5 @@
 -- Writing an opening.
---     Writing     the job: judged, Wrote
+--     Writing     the job: judgeWriting, Wrote
 --     Steps       what the steps are lent and what they leave
 --     Laws        h from what is left of the message
 pub mod Writing

@@ -39,8 +39,8 @@ unfoldable pub inputWords : List ℕ → List ℕ → List ℕ → Bool
 inputWords m z r = allBelow m && (allBelow z && allBelow r)
 
 -- the tests in their order, with an opening of o words and a work buffer of s
-unfoldable pub judged : ℕ → ℕ → List ℕ → List ℕ → List ℕ → List ℕ → List ℕ → List ℕ → ℕ → ℕ → Outcome (Unit {0})
-judged d c g t t' m z r o s =
+unfoldable pub judgeWriting : ℕ → ℕ → List ℕ → List ℕ → List ℕ → List ℕ → List ℕ → List ℕ → ℕ → ℕ → Outcome (Unit {0})
+judgeWriting d c g t t' m z r o s =
     limits d c
     ⨾ require (writeLengths d c (length g) (length t) (length t') (length m) (length z) (length r) o s) 3
     ⨾ require (rowWords g t t' && inputWords m z r) 4 ⨾ legalRow g t t'
@@ -54,9 +54,9 @@ openingWords g t t' m z r = toWords 𝔽₁ (opening F 0 (lent g t t') (elements
 
 -- answer a, opening o' and work s': refused as above, and both as they were; or f(z), the opening as it is defined, and zeros
 pub record Wrote (d c : ℕ) (g t t' m z r o s : List ℕ) (a : Written) (o' s' : List ℕ) : Type 0 where
-  pub answer : outcome a ≡ judged d c g t t' m z r (length o) (length s) ⨾ done (valueWord m z)
-  pub result : o' ≡ kept (judged d c g t t' m z r (length o) (length s)) o (openingWords g t t' m z r)
-  pub work : s' ≡ kept (judged d c g t t' m z r (length o) (length s)) s (replicate (length s) 0)
+  pub answer : outcome a ≡ judgeWriting d c g t t' m z r (length o) (length s) ⨾ done (valueWord m z)
+  pub result : o' ≡ kept (judgeWriting d c g t t' m z r (length o) (length s)) o (openingWords g t t' m z r)
+  pub work : s' ≡ kept (judgeWriting d c g t t' m z r (length o) (length s)) s (replicate (length s) 0)
 
 -- what the work is lent: exact lengths, words below the modulus, a legal row and diagonals
 pub record Writes (d : ℕ) (g t t' m z r : List ℕ) (o s : ℕ) : Type 0 where

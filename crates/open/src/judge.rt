@@ -1,9 +1,10 @@
 // What the job judges, in the order of the refusals.
 ghost use mathlib.Core.Path.{_≡_};
-ghost use mathlib.Core.Bool.{true};
+ghost use mathlib.Core.Bool.{true, _&&_};
 ghost use Rattle.job.specs.Outcome.{outcome};
 ghost use Rattle.job.specs.Limits.{depthOk, rateOk};
-ghost use Rattle.open.specs.Writing.{inputLengths, bufferLengths, writeLengths, inputWords, judged};
+ghost use Rattle.code.specs.Parameters.{rowWords};
+ghost use Rattle.open.specs.Writing.{inputLengths, bufferLengths, writeLengths, inputWords, judgeWriting};
 use code::parameters;
 use job::Answer;
 use job::Refusal;
@@ -59,7 +60,7 @@ fn lengths_ok(
     buffers_ok(depth, rate, o, s)
 }
 
-fn words_ok(m: &[u32], z: &[u32], r: &[u32]) -> bool
+fn inputs_low(m: &[u32], z: &[u32], r: &[u32]) -> bool
     ensures { λ b. ⌜ b ≡ inputWords (now (m .entry)) (now (z .entry)) (now (r .entry)) ⌝ }
 {
     if !scan::all_below(m) {
@@ -69,6 +70,15 @@ fn words_ok(m: &[u32], z: &[u32], r: &[u32]) -> bool
         return false;
     }
     scan::all_below(r)
+}
+
+fn words_ok(g: &[u32], t: &[u32], t2: &[u32], m: &[u32], z: &[u32], r: &[u32]) -> bool
+    ensures { λ b. ⌜ b ≡ (rowWords (now (g .entry)) (now (t .entry)) (now (t2 .entry)) && inputWords (now (m .entry)) (now (z .entry)) (now (r .entry))) ⌝ }
+{
+    if !parameters::words_ok(g, t, t2) {
+        return false;
+    }
+    inputs_low(m, z, r)
 }
 
 pub fn judge(
@@ -83,7 +93,7 @@ pub fn judge(
     o: usize,
     s: usize,
 ) -> Answer
-    ensures { λ a. ⌜ outcome a ≡ judged depth rate (now (g .entry)) (now (t .entry)) (now (t2 .entry)) (now (m .entry)) (now (z .entry)) (now (r .entry)) o s ⌝ }
+    ensures { λ a. ⌜ outcome a ≡ judgeWriting depth rate (now (g .entry)) (now (t .entry)) (now (t2 .entry)) (now (m .entry)) (now (z .entry)) (now (r .entry)) o s ⌝ }
 {
     let limits = parameters::limits(depth, rate);
     if let Answer::Refused(n) = limits {
@@ -103,11 +113,6 @@ pub fn judge(
     ) {
         return Answer::Refused(Refusal::Length);
     }
-    if !parameters::words_ok(g, t, t2) {
-        return Answer::Refused(Refusal::Word);
-    }
-    if !words_ok(m, z, r) {
-        return Answer::Refused(Refusal::Word);
-    }
-    parameters::legal(g, t, t2)
+    let words = words_ok(g, t, t2, m, z, r);
+    parameters::legal(words, g, t, t2)
 }

@@ -11,13 +11,20 @@ use lib.Seq.{take-all, take-suc}
 use borrow.Author.Tests.{eqb-true}
 use Rattle.algebra.specs.Tests.{and-both}
 use Rattle.algebra.specs.Words.{𝔽₁}
-use Rattle.algebra.specs.WordLists.{low-take, low-drop, elements, elements-take, elements-drop, elements-append, length-elements, getD-elements}
-use Rattle.job.specs.Outcome.{done, must-done, require-done}
+use Rattle.algebra.specs.WordLists.{Low, low-take, low-drop, elements, elements-take, elements-drop, elements-append, length-elements, getD-elements}
+use Rattle.job.specs.Outcome.{done, require-done, held}
 use Rattle.job.specs.Limits.{depthOk}
 use Rattle.multilinear.specs.Polynomial.{poly, form-nil, poly-top}
-use Rattle.residue.specs.Residues.{K, el, word, _⊞_, _⊠_}
+use Rattle.residue.specs.Residues.{P, K, el, word, _⊞_, _⊠_}
 use Rattle.residue.specs.Scans.{allBelow, all-below}
-use Rattle.polynomial.specs.Evaluation.{Evaluates, evaluateLengths, judged}
+use Rattle.polynomial.specs.Evaluation.{Evaluates, evaluateLengths, judgeEvaluating}
+
+-- the variables below the top one, and that one
+abbrev pub lower : List ℕ → List ℕ
+lower z = take (length z - 1) z
+
+abbrev pub top : List ℕ → ℕ
+top z = getD z (length z - 1) 0
 
 pub one-word : (m z : List ℕ) → Evaluates m z → length z ≡ 0 → (0 < length m) × (getD m 0 0 ≡ word (poly K (elements 𝔽₁ m) (elements 𝔽₁ z)))
 unfolding elements
@@ -33,54 +40,57 @@ module _ (m z : List ℕ) (𝓔 : Evaluates m z) (lo : 0 < length z) where
   half-is : length m / 2 ≡ 2 ^ (length z - 1)
   half-is = omega (arith, twice)
 
-  length-low : length (take (length z - 1) z) ≡ length z - 1
-  length-low = length-take (length z - 1) z ∙ omega arith
+  pub length-lower : length (lower z) ≡ length z - 1
+  length-lower = length-take (length z - 1) z ∙ omega arith
+
+  lower-low : Low P (lower z)
+  lower-low = low-take (length z - 1) (𝓔 .point)
 
   rest : take (length m - length m / 2) (drop (length m / 2) m) ≡ drop (length m / 2) m
   rest = take-all (length m - length m / 2) (drop (length m / 2) m) (omega (arith, length-drop (length m / 2) m))
 
-  pub left : Evaluates (take (length m / 2) m) (take (length z - 1) z)
+  pub left : Evaluates (take (length m / 2) m) (lower z)
   left =
       record {
-        size = length-take (length m / 2) m ∙ omega (arith, half-is, twice) ∙ half-is ∙ ap (λ k. 2 ^ k) (sym length-low);
+        size = length-take (length m / 2) m ∙ omega (arith, half-is, twice) ∙ half-is ∙ ap (λ k. 2 ^ k) (sym length-lower);
         message = low-take (length m / 2) (𝓔 .message);
-        point = low-take (length z - 1) (𝓔 .point);
+        point = lower-low;
       }
 
-  pub right : Evaluates (take (length m - length m / 2) (drop (length m / 2) m)) (take (length z - 1) z)
+  pub right : Evaluates (take (length m - length m / 2) (drop (length m / 2) m)) (lower z)
   right =
       record {
-        size = ap length rest ∙ length-drop (length m / 2) m ∙ omega (arith, half-is, twice) ∙ half-is ∙ ap (λ k. 2 ^ k) (sym length-low);
+        size = ap length rest ∙ length-drop (length m / 2) m ∙ omega (arith, half-is, twice) ∙ half-is ∙ ap (λ k. 2 ^ k) (sym length-lower);
         message = low-take (length m - length m / 2) (low-drop (length m / 2) (𝓔 .message));
-        point = low-take (length z - 1) (𝓔 .point);
+        point = lower-low;
       }
 
-  last : take (length z - 1) z ++ (getD z (length z - 1) 0 ∷ []) ≡ z
+  last : lower z ++ (top z ∷ []) ≡ z
   last =
       let q : suc (length z - 1) ≡ length z = omega arith in
       sym (take-suc z (length z - 1) 0 (omega arith)) ∙ ap (λ k. take k z) q ∙ take-all (length z) z (omega arith)
 
-  pub joined : (l r v : ℕ) → l ≡ word (poly K (elements 𝔽₁ (take (length m / 2) m)) (elements 𝔽₁ (take (length z - 1) z)))
-      → r ≡ word (poly K (elements 𝔽₁ (take (length m - length m / 2) (drop (length m / 2) m))) (elements 𝔽₁ (take (length z - 1) z)))
-      → v ≡ word (el l ⊞ el (getD z (length z - 1) 0) ⊠ el r) → v ≡ word (poly K (elements 𝔽₁ m) (elements 𝔽₁ z))
+  pub joined : (l r v : ℕ) → l ≡ word (poly K (elements 𝔽₁ (take (length m / 2) m)) (elements 𝔽₁ (lower z)))
+      → r ≡ word (poly K (elements 𝔽₁ (take (length m - length m / 2) (drop (length m / 2) m))) (elements 𝔽₁ (lower z)))
+      → v ≡ word (el l ⊞ el (top z) ⊠ el r) → v ≡ word (poly K (elements 𝔽₁ m) (elements 𝔽₁ z))
   unfolding elements
   joined l r v el-l el-r e =
-      let y = elements 𝔽₁ (take (length z - 1) z) in
-      let x = el (getD z (length z - 1) 0) in
-      let size : length m / 2 ≡ 2 ^ length y = half-is ∙ ap (λ k. 2 ^ k) (sym (length-elements 𝔽₁ (take (length z - 1) z) ∙ length-low)) in
+      let y = elements 𝔽₁ (lower z) in
+      let x = el (top z) in
+      let size : length m / 2 ≡ 2 ^ length y = half-is ∙ ap (λ k. 2 ^ k) (sym (length-elements 𝔽₁ (lower z) ∙ length-lower)) in
       let a : el l ≡ poly K (take (2 ^ length y) (elements 𝔽₁ m)) y =
       ap el el-l ∙ 𝔽₁ .words .el-val _ ∙ ap (λ w. poly K w y) (elements-take 𝔽₁ (length m / 2) m ∙ ap (λ k. take k (elements 𝔽₁ m)) size) in
       let b : el r ≡ poly K (drop (2 ^ length y) (elements 𝔽₁ m)) y =
       ap el el-r ∙ 𝔽₁ .words .el-val _ ∙ ap (λ w. poly K w y) (ap (elements 𝔽₁) rest ∙ elements-drop 𝔽₁ (length m / 2) m ∙ ap (λ k. drop k (elements 𝔽₁ m)) size) in
-      e ∙ ap word (ap₂ (λ s t. s ⊞ x ⊠ t) a b ∙ sym (poly-top K (elements 𝔽₁ m) y x) ∙ ap (poly K (elements 𝔽₁ m)) (sym (elements-append 𝔽₁ (take (length z - 1) z) (getD z (length z - 1) 0 ∷ [])) ∙ ap (elements 𝔽₁) last))
+      e ∙ ap word (ap₂ (λ s t. s ⊞ x ⊠ t) a b ∙ sym (poly-top K (elements 𝔽₁ m) y x) ∙ ap (poly K (elements 𝔽₁ m)) (sym (elements-append 𝔽₁ (lower z) (top z ∷ [])) ∙ ap (elements 𝔽₁) last))
 
 -- the job's tests have passed
-pub evaluates : (d : ℕ) (m z : List ℕ) → judged d m z ≡ done tt → Evaluates m z
-unfolding judged evaluateLengths
+pub evaluates : (d : ℕ) (m z : List ℕ) → judgeEvaluating d m z ≡ done tt → Evaluates m z
+unfolding judgeEvaluating evaluateLengths
 evaluates d m z e =
     let a = require-done (depthOk d) 1 e in
     let b = require-done (evaluateLengths d (length m) (length z)) 3 (a .1) in
-    let c = must-done (allBelow m && allBelow z) 4 _ (b .1) in
+    let c = held (allBelow m && allBelow z) 4 (b .1) in
     let l = and-both (eqb (length m) (2 ^ d)) _ (b .0) in
-    let w = and-both (allBelow m) _ (c .0) in
+    let w = and-both (allBelow m) _ c in
     record { size = eqb-true _ _ (l .0) ∙ ap (λ k. 2 ^ k) (sym (eqb-true _ _ (l .1))); message = all-below m (w .0); point = all-below z (w .1) }

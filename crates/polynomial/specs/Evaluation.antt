@@ -24,12 +24,12 @@ outcome (Refused r) = refused (number r)
 unfoldable pub evaluateLengths : ℕ → ℕ → ℕ → Bool
 evaluateLengths d m z = eqb m (2 ^ d) && eqb z d
 
-unfoldable pub judged : ℕ → List ℕ → List ℕ → Outcome (Unit {0})
-judged d m z = require (depthOk d) 1 ⨾ require (evaluateLengths d (length m) (length z)) 3 ⨾ require (allBelow m && allBelow z) 4
+unfoldable pub judgeEvaluating : ℕ → List ℕ → List ℕ → Outcome (Unit {0})
+judgeEvaluating d m z = require (depthOk d) 1 ⨾ require (evaluateLengths d (length m) (length z)) 3 ⨾ require (allBelow m && allBelow z) 4
 
 -- the polynomial's value at the point
 abbrev pub evaluation : ℕ → List ℕ → List ℕ → Outcome ℕ
-evaluation d m z = judged d m z ⨾ done (word (poly K (elements 𝔽₁ m) (elements 𝔽₁ z)))
+evaluation d m z = judgeEvaluating d m z ⨾ done (word (poly K (elements 𝔽₁ m) (elements 𝔽₁ z)))
 
 -- what the work is lent: a word for each set of variables
 pub record Evaluates (m z : List ℕ) : Type 0 where

@@ -1,14 +1,14 @@
 // The value of the multilinear polynomial whose coefficients a message holds.
 ghost use mathlib.Core.Path.{_≡_};
-ghost use mathlib.Core.Bool.{true};
-ghost use lib.ListN.{length};
+ghost use mathlib.Core.Bool.{true, _&&_};
 ghost use Rattle.algebra.specs.Words.{𝔽₁};
 ghost use Rattle.algebra.specs.WordLists.{elements};
 ghost use Rattle.job.specs.Outcome.{outcome as outcomeOf};
 ghost use Rattle.job.specs.Limits.{depthOk};
 ghost use Rattle.multilinear.specs.Polynomial.{poly};
 ghost use Rattle.residue.specs.Residues.{K, word};
-ghost use Rattle.polynomial.specs.Evaluation.{Evaluates, evaluateLengths, judged, evaluation, outcome};
+ghost use Rattle.residue.specs.Scans.{allBelow};
+ghost use Rattle.polynomial.specs.Evaluation.{Evaluates, evaluateLengths, judgeEvaluating, evaluation, outcome};
 use job::Answer;
 use job::Refusal;
 use residue::scan;
@@ -45,8 +45,17 @@ fn lengths_ok(depth: u32, m: usize, z: usize) -> bool
     z == depth as usize
 }
 
+fn words_ok(m: &[u32], z: &[u32]) -> bool
+    ensures { λ r. ⌜ r ≡ (allBelow (now (m .entry)) && allBelow (now (z .entry))) ⌝ }
+{
+    if !scan::all_below(m) {
+        return false;
+    }
+    scan::all_below(z)
+}
+
 fn judge(depth: u32, m: &[u32], z: &[u32]) -> Answer
-    ensures { λ r. ⌜ outcomeOf r ≡ judged depth (now (m .entry)) (now (z .entry)) ⌝ }
+    ensures { λ r. ⌜ outcomeOf r ≡ judgeEvaluating depth (now (m .entry)) (now (z .entry)) ⌝ }
 {
     if !job::depth_ok(depth) {
         return Answer::Refused(Refusal::Depth);
@@ -54,10 +63,7 @@ fn judge(depth: u32, m: &[u32], z: &[u32]) -> Answer
     if !lengths_ok(depth, m.len(), z.len()) {
         return Answer::Refused(Refusal::Length);
     }
-    if !scan::all_below(m) {
-        return Answer::Refused(Refusal::Word);
-    }
-    if !scan::all_below(z) {
+    if !words_ok(m, z) {
         return Answer::Refused(Refusal::Word);
     }
     Answer::Done

@@ -17,7 +17,7 @@ use Rattle.residue.specs.Residues.{P, K}
 use Rattle.table.specs.Clearances.{inRange, residueOf, clearanceOf, residue-lt}
 use Rattle.table.specs.Depth.{isPower, exponent, exponent-is}
 use Rattle.table.specs.Passes.{across, passes, passes-coefficients, passes-table}
-use Rattle.table.specs.Jobs.{tableOutcome, MessageOf, Leaves, ToCoefficients as Coefficients, messageOutcome, tableOf, ToTable as Tables}
+use Rattle.table.specs.Jobs.{judgeTable, MessageOf, Leaves, ToCoefficients as Coefficients, judgeMessage, tableOf, ToTable as Tables}
 use Rattle.table.specs.declared.transform.Way.the-variants.{ToCoefficients, ToTable}
 
 low-residues : (t : List ℤ) → all inRange t ≡ true → Low P (map residueOf t)
@@ -65,14 +65,14 @@ entries {m} {w} {d} {v} is deep p e =
 
 -- the two jobs, done and refused
 module _ (t : List ℤ) (old : List ℕ) where
-  pub coefficients-done : (new : List ℕ) → done tt ≡ tableOutcome t (length old) → MessageOf t new → Coefficients t old new Done
+  pub coefficients-done : (new : List ℕ) → done tt ≡ judgeTable t (length old) → MessageOf t new → Coefficients t old new Done
   coefficients-done new e f = record { answer = e; message = subst (λ o. Leaves o old new (MessageOf t new)) e f }
 
-  pub coefficients-refused : (r : Refusal) → refused (number r) ≡ tableOutcome t (length old) → Coefficients t old old (Refused r)
+  pub coefficients-refused : (r : Refusal) → refused (number r) ≡ judgeTable t (length old) → Coefficients t old old (Refused r)
   coefficients-refused r e = record { answer = e; message = subst (λ o. Leaves o old old (MessageOf t old)) e refl }
 
 module _ (m : List ℕ) (old : List ℤ) (work : List ℕ) where
-  pub tables-done : (new : List ℤ) (left : List ℕ) → done tt ≡ messageOutcome m (length old) (length work)
+  pub tables-done : (new : List ℤ) (left : List ℕ) → done tt ≡ judgeMessage m (length old) (length work)
       → new ≡ tableOf m → left ≡ replicate (length work) 0 → Tables m old new work left Done
   tables-done new left e p q = record {
     answer = e;
@@ -80,7 +80,7 @@ module _ (m : List ℕ) (old : List ℤ) (work : List ℕ) where
     cleared = q ∙ ap (λ o. kept o work (replicate (length work) 0)) e;
   }
 
-  pub tables-refused : (r : Refusal) → refused (number r) ≡ messageOutcome m (length old) (length work) → Tables m old old work work (Refused r)
+  pub tables-refused : (r : Refusal) → refused (number r) ≡ judgeMessage m (length old) (length work) → Tables m old old work work (Refused r)
   tables-refused r e = record {
     answer = e;
     clearances = ap (λ o. kept o old (tableOf m)) e;

@@ -5,11 +5,11 @@ use Prim.Native.Nat.{ℕ, zero, suc, _-_, _<_, _≤_}
 use native.Mathlib.Omega.{arith}
 use lib.Dec.{ltb}
 use borrow.Author.Tests.{ltb-true, lt-ltb}
-use Rattle.job.specs.Outcome.{refused, done, must-true, must-false}
+use Rattle.job.specs.Outcome.{refused, done, stop, pass}
 use Rattle.residue.specs.declared.Residue.{Residue}
 use Rattle.residue.specs.declared.Parsed.the-variants.{Residue as Is, TooLarge}
 use Rattle.residue.specs.Residues.{P, parsed, parsedBy}
-use Rattle.table.specs.Clearances.{border, clearanceOf, meaning, free, overlap, clearance-free, clearance-overlap}
+use Rattle.table.specs.Clearances.{border, meaning, free, overlap, clearance-free, clearance-overlap}
 use Rattle.table.specs.Reading.{reading}
 
 pub no-residue : (w : ℕ) → TooLarge ≡ parsed w → refused 4 ≡ reading w
@@ -17,7 +17,7 @@ no-residue w e = go (ltb w P) refl e
   where
     go : (b : Bool) → ltb w P ≡ b → TooLarge ≡ parsedBy b w → refused 4 ≡ reading w
     go true p q = absurd (let z : _≡_ {A = ℕ} 0 1 = cc in omega arith)
-    go false p q = sym (must-false 4 (done (meaning (clearanceOf w))) p)
+    go false p q = stop _ p
 
 -- a word that is a residue is that residue's
 pub record Same (w v : ℕ) : Type 0 where
@@ -32,7 +32,7 @@ a-residue w r e = go (ltb w P) refl e
     go false p q = absurd (let z : _≡_ {A = ℕ} 0 1 = cc in omega arith)
 
 pub reads-free : (w : ℕ) → w < border → done (free w) ≡ reading w
-reads-free w h = sym (must-true 4 (done (meaning (clearanceOf w))) (lt-ltb w P (omega arith)) ∙ ap (λ x. done (meaning x)) (clearance-free w h))
+reads-free w h = pass 4 (lt-ltb w P (omega arith)) (sym (ap (λ x. done (meaning x)) (clearance-free w h)))
 
 pub reads-overlap : (w : ℕ) → border ≤ w → w < P → done (overlap (P - w)) ≡ reading w
 reads-overlap w h l = go (P - w) refl
@@ -41,4 +41,4 @@ reads-overlap w h l = go (P - w) refl
     go zero e = absurd (omega arith)
     go (suc n) e =
         ap (λ k. done (overlap k)) e
-        ∙ sym (must-true 4 (done (meaning (clearanceOf w))) (lt-ltb w P l) ∙ ap (λ x. done (meaning x)) (clearance-overlap w n h e))
+        ∙ pass 4 (lt-ltb w P l) (sym (ap (λ x. done (meaning x)) (clearance-overlap w n h e)))

@@ -11,15 +11,15 @@ use Rattle.algebra.specs.Words.{𝔽₁}
 use Rattle.algebra.specs.WordLists.{Low, elements, toWords}
 use Rattle.multilinear.specs.Table.{table}
 use Rattle.job.specs.declared.Answer.{Answer}
-use Rattle.job.specs.Outcome.{Outcome, refused, done, must, outcome, kept}
+use Rattle.job.specs.Outcome.{Outcome, refused, done, require, _⨾_, outcome, kept}
 use Rattle.residue.specs.Residues.{P, K, el}
 use Rattle.residue.specs.Scans.{allBelow}
 use Rattle.table.specs.Clearances.{inRange, residueOf, clearanceOf}
 use Rattle.table.specs.Depth.{isPower, exponent}
 
 -- the outcome for a table, and for the length of the message's buffer
-abbrev pub tableOutcome : List ℤ → ℕ → Outcome (Unit {0})
-tableOutcome t n = must (isPower (length t)) 1 (must (eqb n (length t)) 3 (must (all inRange t) 9 (done tt)))
+abbrev pub judgeTable : List ℤ → ℕ → Outcome (Unit {0})
+judgeTable t n = require (isPower (length t)) 1 ⨾ require (eqb n (length t)) 3 ⨾ require (all inRange t) 9
 
 -- m is the message of the table t: the polynomial with these coefficients has entry b as its value at corner b
 pub record MessageOf (t : List ℤ) (m : List ℕ) : Type 0 where
@@ -33,18 +33,18 @@ Leaves (refused n) old new made = new ≡ old
 Leaves (done a) old new made = made
 
 pub record ToCoefficients (t : List ℤ) (old new : List ℕ) (r : Answer) : Type 0 where
-  pub answer : outcome r ≡ tableOutcome t (length old)
-  pub message : Leaves (tableOutcome t (length old)) old new (MessageOf t new)
+  pub answer : outcome r ≡ judgeTable t (length old)
+  pub message : Leaves (judgeTable t (length old)) old new (MessageOf t new)
 
 -- the outcome for a message, and for the lengths of the clearances' and the work buffer
-abbrev pub messageOutcome : List ℕ → ℕ → ℕ → Outcome (Unit {0})
-messageOutcome m n k = must (isPower (length m)) 1 (must (eqb n (length m) && eqb k (length m)) 3 (must (allBelow m) 4 (done tt)))
+abbrev pub judgeMessage : List ℕ → ℕ → ℕ → Outcome (Unit {0})
+judgeMessage m n k = require (isPower (length m)) 1 ⨾ require (eqb n (length m) && eqb k (length m)) 3 ⨾ require (allBelow m) 4
 
 -- the table of a message, as clearances
 abbrev pub tableOf : List ℕ → List ℤ
 tableOf m = map clearanceOf (toWords 𝔽₁ (table K (exponent (length m)) (elements 𝔽₁ m)))
 
 pub record ToTable (m : List ℕ) (old new : List ℤ) (work left : List ℕ) (r : Answer) : Type 0 where
-  pub answer : outcome r ≡ messageOutcome m (length old) (length work)
-  pub clearances : new ≡ kept (messageOutcome m (length old) (length work)) old (tableOf m)
-  pub cleared : left ≡ kept (messageOutcome m (length old) (length work)) work (replicate (length work) 0)
+  pub answer : outcome r ≡ judgeMessage m (length old) (length work)
+  pub clearances : new ≡ kept (judgeMessage m (length old) (length work)) old (tableOf m)
+  pub cleared : left ≡ kept (judgeMessage m (length old) (length work)) work (replicate (length work) 0)

@@ -18,7 +18,7 @@ use Rattle.residue.specs.Scans.{allBelow, all-below}
 use Rattle.table.specs.Clearances.{inRange, residueOf, clearanceOf, residue-lt, clearance-residue, clearance-range, residue-clearance}
 use Rattle.table.specs.Depth.{isPower, exponent, exponent-is}
 use Rattle.table.specs.Judged.{table-passed, table-done, message-passed, message-done}
-use Rattle.table.specs.Jobs.{tableOutcome, MessageOf, Leaves, ToCoefficients, tableOf, ToTable}
+use Rattle.table.specs.Jobs.{judgeTable, MessageOf, Leaves, ToCoefficients, tableOf, ToTable}
 
 -- the elements of a table's residues
 values : (t : List ℤ) → elements 𝔽₁ (map residueOf t) ≡ map (λ x. el (residueOf x)) t
@@ -102,7 +102,7 @@ pub there-and-back : {t new : List ℤ} {old m work left : List ℕ} {r r′ : A
 there-and-back {t} {new} {old} {m} {work} other c d b o w =
     let passed = sym (c .answer) ∙ d in
     let legal = table-passed t (length old) passed in
-    let f = made (tableOutcome t (length old)) old m (MessageOf t m) passed (c .message) in
+    let f = made (judgeTable t (length old)) old m (MessageOf t m) passed (c .message) in
     let same : length m ≡ length t = f .size ∙ sym (exponent-is _ (length t) (legal .power)) in
     let fine = message-done m (length other) (length work) (ap isPower same ∙ legal .power) (o ∙ sym same) (w ∙ sym same) (below-all m (f .low)) in
     (b .answer ∙ sym fine, b .clearances ∙ ap (λ x. kept x other (tableOf m)) (sym fine) ∙ table-message t m (legal .power) (legal .range) f)
@@ -118,6 +118,6 @@ back-and-there {old} {t} {m} {m′} {work} other b d c o =
     let same : length t ≡ length m = ap length is ∙ length-tableOf m (legal .power) in
     let fine = table-done t (length other) (ap isPower same ∙ legal .power) (o ∙ sym same) (ap (all inRange) is ∙ in-range _) in (
       c .answer ∙ sym fine,
-      message-unique t m′ m (made (tableOutcome t (length other)) other m′ (MessageOf t m′) (sym fine) (c .message))
+      message-unique t m′ m (made (judgeTable t (length other)) other m′ (MessageOf t m′) (sym fine) (c .message))
           (subst (λ x. MessageOf x m) (sym is) (message-table m (legal .power) (all-below m (legal .below)))),
     )

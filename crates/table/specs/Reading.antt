@@ -1,7 +1,7 @@
 -- What reading a word as a clearance gives. Assumes nothing.
 use Prim.Native.Nat.{ℕ}
 use lib.Dec.{ltb}
-use Rattle.job.specs.Outcome.{Outcome, refused, done, must, number}
+use Rattle.job.specs.Outcome.{Outcome, refused, done, require, _⨾_, number}
 use Rattle.residue.specs.Residues.{P}
 use Rattle.table.specs.Clearances.{clearanceOf, Meaning, free, overlap, meaning}
 use Rattle.table.specs.declared.reading.Reading.{Reading}
@@ -9,7 +9,7 @@ use Rattle.table.specs.declared.reading.Reading.the-variants.{Free, Over
 
 -- refusal 4 for a word that is no residue, else what the clearance means
 abbrev pub reading : ℕ → Outcome Meaning
-reading w = must (ltb w P) 4 (done (meaning (clearanceOf w)))
+reading w = require (ltb w P) 4 ⨾ done (meaning (clearanceOf w))
 
 -- what each case of the answer says
 abbrev pub outcomeOf : Reading → Outcome Meaning

@@ -11,7 +11,7 @@ ghost use Rattle.job.specs.Outcome.{outcome};
 ghost use Rattle.residue.specs.Residues.{K};
 ghost use Rattle.table.specs.Clearances.{inRange, residueOf};
 ghost use Rattle.table.specs.Depth.{isPower, exponent};
-ghost use Rattle.table.specs.Jobs.{tableOutcome, ToCoefficients};
+ghost use Rattle.table.specs.Jobs.{judgeTable, ToCoefficients};
 use crate::length;
 use crate::slices;
 use crate::transform;
@@ -20,7 +20,7 @@ use job::Answer;
 use job::Refusal;
 
 fn judge(clearances: &[i32], len: usize) -> Answer
-    ensures { λ r. ⌜ outcome r ≡ tableOutcome (now (clearances .entry)) len ⌝ }
+    ensures { λ r. ⌜ outcome r ≡ judgeTable (now (clearances .entry)) len ⌝ }
 {
     if !length::is_power(clearances.len()) {
         return Answer::Refused(Refusal::Depth);

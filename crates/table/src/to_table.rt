@@ -6,7 +6,7 @@ ghost use Rattle.algebra.specs.WordLists.{Low};
 ghost use Rattle.job.specs.Outcome.{outcome};
 ghost use Rattle.residue.specs.Residues.{P};
 ghost use Rattle.table.specs.Depth.{isPower};
-ghost use Rattle.table.specs.Jobs.{messageOutcome, tableOf, ToTable};
+ghost use Rattle.table.specs.Jobs.{judgeMessage, tableOf, ToTable};
 use crate::length;
 use crate::slices;
 use crate::transform;
@@ -17,7 +17,7 @@ use residue::scan;
 use residue::words;
 
 fn judge(message: &[u32], table: usize, work: usize) -> Answer
-    ensures { λ r. ⌜ outcome r ≡ messageOutcome (now (message .entry)) table work ⌝ }
+    ensures { λ r. ⌜ outcome r ≡ judgeMessage (now (message .entry)) table work ⌝ }
 {
     if !length::is_power(message.len()) {
         return Answer::Refused(Refusal::Depth);

@@ -35,8 +35,8 @@ queriesOk zero c us = eqb (length us) 0
 queriesOk (suc i) c us = leb 1 (length us) && (leb (length us) most && all (λ u. ltb u (blockSize c i)) us)
 
 -- the refusals, in their order
-unfoldable pub judgement : (d c : ℕ) (g t t' w z : List ℕ) (y : ℕ) (r us o : List ℕ) → Outcome (Unit {0})
-judgement d c g t t' w z y r us o =
+unfoldable pub judgeVerifying : (d c : ℕ) (g t t' w z : List ℕ) (y : ℕ) (r us o : List ℕ) → Outcome (Unit {0})
+judgeVerifying d c g t t' w z y r us o =
     limits d c
     ⨾ require (openedLengths d c (length g) (length t) (length t') (length w) (length z) (length r) (length o)) 3
     ⨾ require (openedWords g t t' w z y r o) 4 ⨾ legalRow g t t' ⨾ require (queriesOk d c us) 7
@@ -44,5 +44,5 @@ judgement d c g t t' w z y r us o =
 -- a refusal, or the first check that fails, or none
 unfoldable pub verification : (d c : ℕ) (g t t' w z : List ℕ) (y : ℕ) (r us o : List ℕ) → Outcome (Option Check)
 verification d c g t t' w z y r us o =
-    judgement d c g t t' w z y r us o
+    judgeVerifying d c g t t' w z y r us o
     ⨾ done (firstFailure (checks F 0 (lent g t t') (elements 𝔽₁ w) (elements 𝔽₁ z) (el y) (elements 𝔽₁ r) us (elements 𝔽₁ o)))

@@ -6,7 +6,7 @@ ghost use Rattle.algebra.specs.Tests.{all};
 ghost use Rattle.basefold.specs.Layout.{openingSize};
 ghost use Rattle.job.specs.Outcome.{outcome};
 ghost use Rattle.job.specs.Limits.{depthOk, rateOk};
-ghost use Rattle.verify.specs.Verifying.{openedLengths, openedWords, queriesOk, judgement};
+ghost use Rattle.verify.specs.Verifying.{openedLengths, openedWords, queriesOk, judgeVerifying};
 use code::parameters;
 use job::Answer;
 use job::Refusal;
@@ -127,7 +127,7 @@ pub fn judge(
     queries: &[u32],
     opening: &[u32],
 ) -> Answer
-    ensures { λ a. ⌜ outcome a ≡ judgement depth rate (now (g .entry)) (now (t .entry)) (now (t2 .entry)) (now (block .entry)) (now (z .entry)) y (now (r .entry)) (now (queries .entry)) (now (opening .entry)) ⌝ }
+    ensures { λ a. ⌜ outcome a ≡ judgeVerifying depth rate (now (g .entry)) (now (t .entry)) (now (t2 .entry)) (now (block .entry)) (now (z .entry)) y (now (r .entry)) (now (queries .entry)) (now (opening .entry)) ⌝ }
 {
     let limits = parameters::limits(depth, rate);
     if let Answer::Refused(n) = limits {
@@ -146,10 +146,8 @@ pub fn judge(
     ) {
         return Answer::Refused(Refusal::Length);
     }
-    if !words_ok(g, t, t2, block, z, y, r, opening) {
-        return Answer::Refused(Refusal::Word);
-    }
-    let legal = parameters::legal(g, t, t2);
+    let words = words_ok(g, t, t2, block, z, y, r, opening);
+    let legal = parameters::legal(words, g, t, t2);
     if let Answer::Refused(n) = legal {
         return Answer::Refused(n);
     }

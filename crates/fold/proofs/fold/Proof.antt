@@ -1,5 +1,5 @@
 use Rattle.fold.proofs.Judged.{ready, folded-done, folded-refused}
-use Rattle.fold.specs.Job.{due}
+use Rattle.fold.specs.Job.{judgeFolding}
 use Rattle.job.specs.Outcome.{done, outcome}
 use lib.ListN.{length}
 use mathlib.Core.Path.{_≡_, sym, ap, _∙_}
@@ -14,7 +14,7 @@ enum-told : tie.Need-enum-told
 enum-told c = search needs
 
 -- in the first arm no refusal is due
-fine : (c : tie.After-enum-told) → (let a = c .before .before .before .before .before .before .before .args in due (a .level) (a .rate) (a .t .now) (a .t2 .now) (a .block .now) (a .challenge) (length (a .out .now))) ≡ done tt
+fine : (c : tie.After-enum-told) → (let a = c .before .before .before .before .before .before .before .args in judgeFolding (a .level) (a .rate) (a .t .now) (a .t2 .now) (a .block .now) (a .challenge) (length (a .out .now))) ≡ done tt
 fine c = sym (c .before .before .judge .ensures) ∙ ap outcome (c .enum-told .given .1)
 
 fold-block-requires : tie.Need-fold-block-requires

@@ -3,7 +3,7 @@ use Prim.Native.Nat.{_-_, ℕ, _<_}
 use native.Mathlib.Omega.{arith}
 use lib.ListN.{length, length-take}
 use borrow.Author.Needs.{needs}
-use Rattle.polynomial.proofs.Values.{one-word, left, right, joined}
+use Rattle.polynomial.proofs.Values.{length-lower, one-word, left, right, joined}
 use borrow.Fn.Kinds.{In}
 use borrow.Fn.PlainCycle.{Measures, is, falls, and}
 use Rattle.polynomial.proofs.value.Reads as value
@@ -77,7 +77,7 @@ value-value-requires : (t : ℕ) → value-lts.Need-value-requires (
 value-value-requires t c κs =
     let s = c .before .before .before .before .before in
     let a = s .args in
-    (omega (arith, length-take (length (a .z .now) - 1) (a .z .now)), left (a .m .now) (a .z .now) (s .pre .1) (omega arith))
+    (omega (arith, length-lower (a .m .now) (a .z .now) (s .pre .1) (omega arith)), left (a .m .now) (a .z .now) (s .pre .1) (omega arith))
 
 value-mul-value : (t : ℕ) → value-lts.Need-mul-value (
   value-below t,
@@ -128,7 +128,7 @@ value-value-requires-2 : (t : ℕ) → value-lts.Need-value-requires-2 (
 value-value-requires-2 t c κs =
     let s = c .before .before .before .before .before .before .before .before in
     let a = s .args in
-    (omega (arith, length-take (length (a .z .now) - 1) (a .z .now)), right (a .m .now) (a .z .now) (s .pre .1) (omega arith))
+    (omega (arith, length-lower (a .m .now) (a .z .now) (s .pre .1) (omega arith)), right (a .m .now) (a .z .now) (s .pre .1) (omega arith))
 
 value-mul-plus-product : (t : ℕ) → value-lts.Need-mul-plus-product (
   value-below t,

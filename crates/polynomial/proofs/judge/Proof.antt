@@ -1,10 +1,6 @@
-use Rattle.job.specs.Outcome.{stop, pass, must-true, must-false}
-use mathlib.Core.Path.{sym, ap, ap₂}
-use mathlib.Core.Bool.{_&&_}
+use Rattle.job.specs.Outcome.{stop, pass, refuses, holds}
 use Rattle.job.specs.Flags.{passes, fails}
-use Rattle.residue.specs.Scans.{allBelow}
-use Rattle.polynomial.specs.Evaluation.{judged}
-use Rattle.polynomial.proofs.Values.{left}
+use Rattle.polynomial.specs.Evaluation.{judgeEvaluating}
 use borrow.Author.Needs.{needs}
 use Rattle.polynomial.proofs.judge.Statement.{statement}
 use Rattle.polynomial.proofs.judge.Tie as tie
@@ -13,33 +9,34 @@ depth-ok-requires : tie.Need-depth-ok-requires
 depth-ok-requires c κs = search needs
 
 returns : tie.Need-returns
-unfolding judged
+unfolding judgeEvaluating
 returns c = stop _ (fails (c .before .depth-ok .ensures) (c .if1 .taken))
 
 lengths-ok-requires : tie.Need-lengths-ok-requires
 lengths-ok-requires c κs = passes (c .before .depth-ok .ensures) (c .if1 .left)
 
 returns-2 : tie.Need-returns-2
-unfolding judged
-returns-2 c = pass 1 (passes (c .before .before .before .depth-ok .ensures) (c .before .before .if1 .left)) (stop _ (fails (c .before .lengths-ok .ensures) (c .if2 .taken)))
+unfolding judgeEvaluating
+returns-2 c =
+    let p = c .before .before in
+    pass 1 (passes (p .before .depth-ok .ensures) (p .if1 .left)) (stop _ (fails (c .before .lengths-ok .ensures) (c .if2 .taken)))
 
-all-below-requires : tie.Need-all-below-requires
-all-below-requires c κs = search needs
+words-ok-requires : tie.Need-words-ok-requires
+words-ok-requires c κs = search needs
 
 returns-3 : tie.Need-returns-3
-unfolding judged
-returns-3 c = pass 1 (passes (c .before .before .before .before .before .depth-ok .ensures) (c .before .before .before .before .if1 .left)) (pass 3 (passes (c .before .before .before .lengths-ok .ensures) (c .before .before .if2 .left)) (sym (must-false 4 _ (ap (λ x. x && allBelow (c .before .before .before .before .before .before .before .before .args .z .now)) (fails (c .before .all-below .ensures) (c .if3 .taken))))))
-
-all-below-requires-2 : tie.Need-all-below-requires-2
-all-below-requires-2 c κs = search needs
+unfolding judgeEvaluating
+returns-3 c =
+    let q = c .before .before in
+    let p = q .before .before in
+    pass 1 (passes (p .before .depth-ok .ensures) (p .if1 .left)) (pass 3 (passes (q .before .lengths-ok .ensures) (q .if2 .left)) (refuses (fails (c .before .words-ok .ensures) (c .if3 .taken))))
 
 returns-4 : tie.Need-returns-4
-unfolding judged
-returns-4 c = pass 1 (passes (c .before .before .before .before .before .before .before .depth-ok .ensures) (c .before .before .before .before .before .before .if1 .left)) (pass 3 (passes (c .before .before .before .before .before .lengths-ok .ensures) (c .before .before .before .before .if2 .left)) (sym (must-false 4 _ (ap₂ _&&_ (passes (c .before .before .before .all-below .ensures) (c .before .before .if3 .left)) (fails (c .before .all-below2 .ensures) (c .if4 .taken))))))
-
-returns-5 : tie.Need-returns-5
-unfolding judged
-returns-5 c = pass 1 (passes (c .before .before .before .before .before .before .before .depth-ok .ensures) (c .before .before .before .before .before .before .if1 .left)) (pass 3 (passes (c .before .before .before .before .before .lengths-ok .ensures) (c .before .before .before .before .if2 .left)) (sym (must-true 4 _ (ap₂ _&&_ (passes (c .before .before .before .all-below .ensures) (c .before .before .if3 .left)) (passes (c .before .all-below2 .ensures) (c .if4 .left))))))
+unfolding judgeEvaluating
+returns-4 c =
+    let q = c .before .before in
+    let p = q .before .before in
+    pass 1 (passes (p .before .depth-ok .ensures) (p .if1 .left)) (pass 3 (passes (q .before .lengths-ok .ensures) (q .if2 .left)) (holds 4 (passes (c .before .words-ok .ensures) (c .if3 .left))))
 
 pub judge-spec : {M : Type 1} → statement M
 judge-spec =
@@ -49,8 +46,6 @@ judge-spec =
     returns
     lengths-ok-requires
     returns-2
-    all-below-requires
+    words-ok-requires
     returns-3
-    all-below-requires-2
-    returns-4
-    returns-5)
+    returns-4)

@@ -1,12 +1,10 @@
-use Rattle.job.specs.Outcome.{stop, pass, outcome, after-refused, after-done}
-use Rattle.residue.specs.Scans.{allBelow}
-use mathlib.Core.Path.{sym, ap, ap₂, _∙_}
-use mathlib.Core.Bool.{_&&_}
+use Rattle.job.specs.Outcome.{outcome, require, _⨾_, stop, pass, after-refused, after-done}
+use mathlib.Core.Path.{sym, ap, _∙_}
 use lib.ListN.{length}
 use Rattle.algebra.specs.Tests.{and-both}
 use Rattle.job.specs.Flags.{passes, fails}
-use Rattle.code.specs.Parameters.{limits, within, row-lengths}
-use Rattle.code.specs.Encoding.{encodeLengths, encoding}
+use Rattle.code.specs.Parameters.{limits, legalRow, within, row-lengths}
+use Rattle.code.specs.Encoding.{encodeLengths, judgeEncoding}
 use borrow.Author.Needs.{needs}
 use Rattle.code.proofs.encode.judge.Statement.{statement}
 use Rattle.code.proofs.encode.judge.Tie as tie
@@ -18,7 +16,7 @@ enum-known-limits : tie.Need-enum-known-limits
 enum-known-limits c = search needs
 
 returns : tie.Need-returns
-unfolding encoding
+unfolding judgeEncoding
 returns c = after-refused _ (ap outcome (sym (c .before .limits2 .given .1)) ∙ c .before .before .before .limits .ensures)
 
 enum-told : tie.Need-enum-told
@@ -28,33 +26,27 @@ lengths-ok-requires : tie.Need-lengths-ok-requires
 lengths-ok-requires c κs = let a = c .before .before .before .before .before .before .before .args in within (a .depth) (a .rate) (ap outcome (sym (c .enum-told .given .1)) ∙ c .before .before .limits .ensures)
 
 returns-2 : tie.Need-returns-2
-unfolding encoding
+unfolding judgeEncoding
 returns-2 c = after-done (ap outcome (sym (c .before .before .enum-told .given .1)) ∙ c .before .before .before .before .limits .ensures) (stop _ (fails (c .before .lengths-ok .ensures) (c .if1 .taken)))
 
-words-ok-requires : tie.Need-words-ok-requires
-words-ok-requires c κs = search needs
-
-returns-3 : tie.Need-returns-3
-unfolding encoding
-returns-3 c = after-done (ap outcome (sym (c .before .before .before .before .enum-told .given .1)) ∙ c .before .before .before .before .before .before .limits .ensures) (pass 3 (passes (c .before .before .before .lengths-ok .ensures) (c .before .before .if1 .left)) (stop _ (ap (λ x. x && allBelow (c .before .before .before .before .before .before .before .before .before .before .before .args .m .now)) (fails (c .before .words-ok .ensures) (c .if2 .taken)))))
-
-all-below-requires : tie.Need-all-below-requires
-all-below-requires c κs = search needs
-
-returns-4 : tie.Need-returns-4
-unfolding encoding
-returns-4 c = after-done (ap outcome (sym (c .before .before .before .before .before .before .enum-told .given .1)) ∙ c .before .before .before .before .before .before .before .before .limits .ensures) (pass 3 (passes (c .before .before .before .before .before .lengths-ok .ensures) (c .before .before .before .before .if1 .left)) (stop _ (ap₂ _&&_ (passes (c .before .before .before .words-ok .ensures) (c .before .before .if2 .left)) (fails (c .before .all-below .ensures) (c .if3 .taken)))))
+all-words-ok-requires : tie.Need-all-words-ok-requires
+all-words-ok-requires c κs = search needs
 
 legal-requires : tie.Need-legal-requires
 unfolding encodeLengths
 legal-requires c κs =
-    let a = c .before .before .before .before .before .before .before .before .before .before .before .before .before .args in
-    let l = row-lengths (a .depth) (a .rate) (length (a .g .now)) (length (a .t .now)) (length (a .t2 .now)) (and-both _ _ (passes (c .before .before .before .before .before .lengths-ok .ensures) (c .before .before .before .before .if1 .left)) .0) in
+    let a = c .before .before .before .before .before .before .before .before .before .before .args in
+    let l = row-lengths (a .depth) (a .rate) (length (a .g .now)) (length (a .t .now)) (length (a .t2 .now)) (and-both _ _ (passes (c .before .before .lengths-ok .ensures) (c .before .if1 .left)) .0) in
     l .second ∙ sym (l .first)
 
-returns-5 : tie.Need-returns-5
-unfolding encoding
-returns-5 c = after-done (ap outcome (sym (c .before .before .before .before .before .before .before .enum-told .given .1)) ∙ c .before .before .before .before .before .before .before .before .before .limits .ensures) (pass 3 (passes (c .before .before .before .before .before .before .lengths-ok .ensures) (c .before .before .before .before .before .if1 .left)) (pass 4 (ap₂ _&&_ (passes (c .before .before .before .before .words-ok .ensures) (c .before .before .before .if2 .left)) (passes (c .before .before .all-below .ensures) (c .before .if3 .left))) (c .legal .ensures)))
+returns-3 : tie.Need-returns-3
+unfolding judgeEncoding
+returns-3 c =
+    let a = c .before .before .before .before .before .before .before .before .before .before .before .args in
+    let q = c .before .before .before in
+    after-done (ap outcome (sym (q .before .enum-told .given .1)) ∙ q .before .before .before .limits .ensures)
+    (pass 3 (passes (q .lengths-ok .ensures) (c .before .before .if1 .left))
+    (c .legal .ensures ∙ ap (λ b. require b 4 ⨾ legalRow (a .g .now) (a .t .now) (a .t2 .now)) (c .before .all-words-ok .ensures)))
 
 pub judge-spec : {M : Type 1} → statement M
 judge-spec =
@@ -66,9 +58,6 @@ judge-spec =
     enum-told
     lengths-ok-requires
     returns-2
-    words-ok-requires
-    returns-3
-    all-below-requires
-    returns-4
+    all-words-ok-requires
     legal-requires
-    returns-5)
+    returns-3)

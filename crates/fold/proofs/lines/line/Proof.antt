@@ -7,18 +7,21 @@ use Rattle.fold.proofs.lines.line.Tie as tie
 minus-requires : tie.Need-minus-requires
 minus-requires c κs = search needs
 
-times-difference-requires : tie.Need-times-difference-requires
-times-difference-requires c κs = search needs
+minus-requires-2 : tie.Need-minus-requires-2
+minus-requires-2 c κs = search needs
+
+times-requires : tie.Need-times-requires
+times-requires c κs = (search needs, low-word _ (c .minus2 .ensures))
 
 plus-product-requires : tie.Need-plus-product-requires
-plus-product-requires c κs = (search needs, low-word _ (c .before .minus .ensures), low-word _ (c .times-difference .ensures))
+plus-product-requires c κs = (search needs, low-word _ (c .before .before .minus .ensures), low-word _ (c .times .ensures))
 
 returns : tie.Need-returns
 returns c =
-    let a = c .before .before .before .args in
-    line-word (a .a) (a .t) (a .s) (a .u) (a .v) (c .before .before .minus .ensures) (c .before .times-difference .ensures) (c .plus-product .ensures)
+    let a = c .before .before .before .before .args in
+    line-word (a .a) (a .t) (a .s) (a .u) (a .v) (c .before .before .before .minus .ensures) (c .before .before .minus2 .ensures) (c .before .times .ensures) (c .plus-product .ensures)
 
 pub line-spec : {M : Type 1} → statement M
 line-spec =
     tie.close
-    (tie.spec minus-requires times-difference-requires plus-product-requires returns)
+    (tie.spec minus-requires minus-requires-2 times-requires plus-product-requires returns)

@@ -1,12 +1,11 @@
 -- `open::judge::judge` meets its contract. Assumes nothing.
-use mathlib.Core.Path.{sym, ap, ap₂, _∙_}
-use mathlib.Core.Bool.{_&&_}
+use mathlib.Core.Path.{sym, ap, _∙_}
 use lib.ListN.{length}
 use Rattle.algebra.specs.Tests.{and-both}
 use Rattle.job.specs.Flags.{passes, fails}
-use Rattle.job.specs.Outcome.{stop, pass, outcome, after-refused, after-done}
-use Rattle.code.specs.Parameters.{within, row-lengths}
-use Rattle.open.specs.Writing.{inputWords, writeLengths, judged}
+use Rattle.job.specs.Outcome.{outcome, require, _⨾_, stop, pass, after-refused, after-done}
+use Rattle.code.specs.Parameters.{legalRow, within, row-lengths}
+use Rattle.open.specs.Writing.{writeLengths, judgeWriting}
 use borrow.Author.Needs.{needs}
 use Rattle.open.proofs.judge.judge.Statement.{statement}
 use Rattle.open.proofs.judge.judge.Tie as tie
@@ -18,7 +17,7 @@ enum-known-limits : tie.Need-enum-known-limits
 enum-known-limits c = search needs
 
 returns : tie.Need-returns
-unfolding judged
+unfolding judgeWriting
 returns c = after-refused _ (ap outcome (sym (c .before .limits2 .given .1)) ∙ c .before .before .before .limits .ensures)
 
 enum-told : tie.Need-enum-told
@@ -28,33 +27,27 @@ lengths-ok-requires : tie.Need-lengths-ok-requires
 lengths-ok-requires c κs = let a = c .before .before .before .before .before .before .before .before .before .args in within (a .depth) (a .rate) (ap outcome (sym (c .enum-told .given .1)) ∙ c .before .before .limits .ensures)
 
 returns-2 : tie.Need-returns-2
-unfolding judged
+unfolding judgeWriting
 returns-2 c = after-done (ap outcome (sym (c .before .before .enum-told .given .1)) ∙ c .before .before .before .before .limits .ensures) (stop _ (fails (c .before .lengths-ok .ensures) (c .if1 .taken)))
 
 words-ok-requires : tie.Need-words-ok-requires
 words-ok-requires c κs = search needs
 
-returns-3 : tie.Need-returns-3
-unfolding judged
-returns-3 c = let a = c .before .before .before .before .before .before .before .before .before .before .before .before .before .args in after-done (ap outcome (sym (c .before .before .before .before .enum-told .given .1)) ∙ c .before .before .before .before .before .before .limits .ensures) (pass 3 (passes (c .before .before .before .lengths-ok .ensures) (c .before .before .if1 .left)) (stop _ (ap (λ x. x && inputWords (a .m .now) (a .z .now) (a .r .now)) (fails (c .before .words-ok .ensures) (c .if2 .taken)))))
-
-words-ok-requires-2 : tie.Need-words-ok-requires-2
-words-ok-requires-2 c κs = search needs
-
-returns-4 : tie.Need-returns-4
-unfolding judged
-returns-4 c = after-done (ap outcome (sym (c .before .before .before .before .before .before .enum-told .given .1)) ∙ c .before .before .before .before .before .before .before .before .limits .ensures) (pass 3 (passes (c .before .before .before .before .before .lengths-ok .ensures) (c .before .before .before .before .if1 .left)) (stop _ (ap₂ _&&_ (passes (c .before .before .before .words-ok .ensures) (c .before .before .if2 .left)) (fails (c .before .words-ok2 .ensures) (c .if3 .taken)))))
-
 legal-requires : tie.Need-legal-requires
 unfolding writeLengths
 legal-requires c κs =
-    let a = c .before .before .before .before .before .before .before .before .before .before .before .before .before .before .before .args in
-    let l = row-lengths (a .depth) (a .rate) (length (a .g .now)) (length (a .t .now)) (length (a .t2 .now)) (and-both _ _ (passes (c .before .before .before .before .before .lengths-ok .ensures) (c .before .before .before .before .if1 .left)) .0) in
+    let a = c .before .before .before .before .before .before .before .before .before .before .before .before .args in
+    let l = row-lengths (a .depth) (a .rate) (length (a .g .now)) (length (a .t .now)) (length (a .t2 .now)) (and-both _ _ (passes (c .before .before .lengths-ok .ensures) (c .before .if1 .left)) .0) in
     l .second ∙ sym (l .first)
 
-returns-5 : tie.Need-returns-5
-unfolding judged
-returns-5 c = after-done (ap outcome (sym (c .before .before .before .before .before .before .before .enum-told .given .1)) ∙ c .before .before .before .before .before .before .before .before .before .limits .ensures) (pass 3 (passes (c .before .before .before .before .before .before .lengths-ok .ensures) (c .before .before .before .before .before .if1 .left)) (pass 4 (ap₂ _&&_ (passes (c .before .before .before .before .words-ok .ensures) (c .before .before .before .if2 .left)) (passes (c .before .before .words-ok2 .ensures) (c .before .if3 .left))) (c .legal .ensures)))
+returns-3 : tie.Need-returns-3
+unfolding judgeWriting
+returns-3 c =
+    let a = c .before .before .before .before .before .before .before .before .before .before .before .before .before .args in
+    let q = c .before .before .before in
+    after-done (ap outcome (sym (q .before .enum-told .given .1)) ∙ q .before .before .before .limits .ensures)
+    (pass 3 (passes (q .lengths-ok .ensures) (c .before .before .if1 .left))
+    (c .legal .ensures ∙ ap (λ b. require b 4 ⨾ legalRow (a .g .now) (a .t .now) (a .t2 .now)) (c .before .words-ok .ensures)))
 
 pub judge-spec : {M : Type 1} → statement M
 judge-spec =
@@ -67,8 +60,5 @@ judge-spec =
     lengths-ok-requires
     returns-2
     words-ok-requires
-    returns-3
-    words-ok-requires-2
-    returns-4
     legal-requires
-    returns-5)
+    returns-3)

@@ -30,11 +30,11 @@ returns-3 c =
 
 returns-4 : tie.Need-returns-4
 returns-4 c =
-    let q = c .before .before in
-    let p = q .before .before in
-    let a = p .before .args in
-    let power = passes (p .is-power .ensures) (q .before .if1 .left) in
-    table-done (a .clearances .now) (a .len) power (q .if2 .left) (passes (c .before .all-in-range .ensures) (c .if3 .left))
+    let s = c .before .before in
+    let r = s .before .before in
+    let b = r .before .args in
+    let passed = passes (r .is-power .ensures) (s .before .if1 .left) in
+    table-done (b .clearances .now) (b .len) passed (s .if2 .left) (passes (c .before .all-in-range .ensures) (c .if3 .left))
 
 pub judge-spec : {M : Type 1} → statement M
 judge-spec =

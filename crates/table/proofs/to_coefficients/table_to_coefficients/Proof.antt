@@ -3,7 +3,7 @@ use mathlib.Core.Path.{_≡_, sym, ap, _∙_}
 use lib.ListN.{length}
 use borrow.Author.Needs.{needs}
 use Rattle.job.specs.Outcome.{done, outcome}
-use Rattle.table.specs.Jobs.{tableOutcome}
+use Rattle.table.specs.Jobs.{judgeTable}
 use Rattle.table.specs.Judged.{table-passed}
 use Rattle.table.specs.Laws.{message-found}
 use Rattle.table.proofs.Finding.{coefficients-done, coefficients-refused}
@@ -17,7 +17,7 @@ enum-told : tie.Need-enum-told
 enum-told c = search needs
 
 -- in the first arm every test has passed
-fine : (c : tie.After-enum-told) → (let a = c .before .before .before .before .args in done tt ≡ tableOutcome (a .clearances .now) (length (a .message .now)))
+fine : (c : tie.After-enum-told) → (let a = c .before .before .before .before .args in done tt ≡ judgeTable (a .clearances .now) (length (a .message .now)))
 fine c = sym (ap outcome (c .enum-told .given .1)) ∙ c .before .before .judge .ensures
 
 find-requires : tie.Need-find-requires

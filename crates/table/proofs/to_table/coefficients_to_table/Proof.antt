@@ -4,7 +4,7 @@ use lib.ListN.{length}
 use borrow.Author.Needs.{needs}
 use Rattle.job.specs.Outcome.{done, outcome}
 use Rattle.residue.specs.Scans.{all-below}
-use Rattle.table.specs.Jobs.{messageOutcome}
+use Rattle.table.specs.Jobs.{judgeMessage}
 use Rattle.table.specs.Judged.{message-passed}
 use Rattle.table.proofs.Finding.{tables-done, tables-refused}
 use Rattle.table.proofs.to_table.coefficients_to_table.Statement.{statement}
@@ -18,7 +18,7 @@ enum-told c = search needs
 
 -- in the first arm every test has passed
 fine : (c : tie.After-enum-told)
-    → (let a = c .before .before .before .before .before .args in done tt ≡ messageOutcome (a .message .now) (length (a .clearances .now)) (length (a .work .now)))
+    → (let a = c .before .before .before .before .before .args in done tt ≡ judgeMessage (a .message .now) (length (a .clearances .now)) (length (a .work .now)))
 fine c = sym (ap outcome (c .enum-told .given .1)) ∙ c .before .before .judge .ensures
 
 find-requires : tie.Need-find-requires

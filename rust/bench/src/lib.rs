@@ -1,0 +1,22 @@
+//! The library's jobs beside the same jobs in plain Rust.
+//!
+//! [`plain`] works as the library does, pass by pass and in the same lent buffers, but is written
+//! as anybody would write it who has nothing to prove. Both are [`Jobs`]; [`call()`] calls one job
+//! of either on the same [`Inputs`] and [`Buffers`]. The program times the two side by side, and the
+//! tests compare their answers and all words that they write.
+
+mod answer;
+mod call;
+mod jobs;
+mod lent;
+mod linked;
+pub mod plain;
+mod sample;
+mod sizes;
+
+pub use answer::{Answer, Code, Failure, Refusal};
+pub use call::{call, Call, Job};
+pub use jobs::{Jobs, Outputs, Plain};
+pub use lent::{Buffers, Inputs};
+pub use linked::Library;
+pub use sizes::{Sizes, DEEPEST, MOST_QUERIES};

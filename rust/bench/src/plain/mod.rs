@@ -1,0 +1,28 @@
+//! The jobs in plain Rust: the library's passes and buffers, with nothing said for a proof.
+
+#![forbid(unsafe_code)]
+
+mod coefficients_to_table;
+mod decode;
+mod encode;
+mod evaluate;
+mod fold;
+mod invert;
+mod judge;
+mod residue;
+mod scan;
+mod table_to_coefficients;
+mod transform;
+mod verify_opening;
+mod write_opening;
+
+pub use coefficients_to_table::coefficients_to_table;
+pub use decode::decode;
+pub use encode::encode;
+pub use evaluate::evaluate;
+pub use fold::{fold, Folding};
+pub use invert::{Invert, OneChain, SixteenChains};
+pub use residue::{Mersenne, Reduce, Remainder, P};
+pub use table_to_coefficients::{table_to_coefficients, FARTHEST};
+pub use verify_opening::{verify_opening, Opened};
+pub use write_opening::write_opening;

@@ -1,0 +1,67 @@
+//! The scan for words below p, by a call that does nothing else.
+
+use super::measure::{measure, Measured, Plan, Side};
+use super::table::Table;
+use std::hint::black_box;
+use tvarchula_bench::plain::P;
+use tvarchula_bench::{call, Buffers, Inputs, Job, Library, Plain};
+
+/// What stands above the table.
+pub const ABOUT: &str = "\
+`tv_verify_opening` with an opening whose last word is the modulus: it tests each word of each slice once,
+then refuses with 4. `sum` is plain Rust that adds the same words and tests nothing.";
+
+/// Verifying with an opening whose last word is p is refused with 4 once every word of every slice
+/// has been read: nothing is computed. The query list is empty, since no scan of it comes first.
+fn refused(inputs: &Inputs) -> Inputs {
+    let mut inputs = inputs.clone();
+    inputs.queries.clear();
+    *inputs.opening.last_mut().expect("an opening has words") = P;
+    inputs
+}
+
+/// The least that reading the same words takes: their sum.
+fn read(inputs: &Inputs) -> u32 {
+    let i = inputs;
+    let slices = [&i.g, &i.t, &i.t2, &i.block, &i.z, &i.r, &i.opening];
+    let sum = |s: &Vec<u32>| s.iter().fold(0, |sum: u32, &w| sum.wrapping_add(w));
+    slices.into_iter().map(sum).fold(0, u32::wrapping_add)
+}
+
+/// The scans at all depths.
+pub fn table(plan: Plan, lent: &[Inputs]) -> Table {
+    let mut table = Table::new([
+        "depth",
+        "bytes",
+        "library, GB/s",
+        "plain, GB/s",
+        "sum, GB/s",
+        "library / plain",
+        "library / sum",
+    ]);
+    for inputs in lent.iter().map(refused) {
+        let bytes = inputs.bytes(Job::Verify);
+        let [library, plain, sum] = scans(plan, &inputs).medians;
+        let mut row = vec![inputs.depth.to_string(), bytes.to_string()];
+        row.extend([library, plain, sum].map(|time| format!("{:.1}", bytes as f64 / time)));
+        row.extend([plain, sum].map(|other| format!("{:.2}", library / other)));
+        table.row(row);
+    }
+    table
+}
+
+/// Library, plain Rust, and the sum alone.
+fn scans(plan: Plan, inputs: &Inputs) -> Measured<3> {
+    let library: Side<'_> = &|buffers: &mut Buffers| {
+        let answer = call::<Library>(Job::Verify, black_box(inputs), buffers);
+        assert_eq!(answer.number, 4);
+    };
+    let plain: Side<'_> = &|buffers: &mut Buffers| {
+        let answer = call::<Plain>(Job::Verify, black_box(inputs), buffers);
+        assert_eq!(answer.number, 4);
+    };
+    let sum: Side<'_> = &|_: &mut Buffers| {
+        black_box(read(black_box(inputs)));
+    };
+    measure(plan, &mut Buffers::default(), [library, plain, sum])
+}

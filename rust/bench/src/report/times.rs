@@ -1,0 +1,118 @@
+//! The times of all jobs.
+
+use super::measure::{measure, Plan, Side};
+use std::hint::black_box;
+use tvarchula_bench::plain::{Mersenne, OneChain, Remainder, SixteenChains};
+use tvarchula_bench::{call, Buffers, Call, Inputs, Job, Library, Plain};
+
+/// A job as it is measured.
+#[derive(Clone, Copy, Debug)]
+pub struct Case {
+    /// The name in the tables.
+    pub name: &'static str,
+    /// The job.
+    pub job: Job,
+    /// How many queries are lent.
+    pub queries: usize,
+    /// Plain Rust, with the reduction for Mersenne primes and with `%`.
+    plain: [Call; 2],
+}
+
+const fn case(name: &'static str, job: Job, queries: usize) -> Case {
+    let plain: [Call; 2] = [
+        call::<Plain<Mersenne, OneChain>>,
+        call::<Plain<Remainder, OneChain>>,
+    ];
+    Case {
+        name,
+        job,
+        queries,
+        plain,
+    }
+}
+
+/// The fold once more, beside plain Rust that inverts in chains as the library does.
+pub const FOLD_CHAINS: Case = Case {
+    plain: [
+        call::<Plain<Mersenne, SixteenChains>>,
+        call::<Plain<Remainder, SixteenChains>>,
+    ],
+    ..case("fold, chains", Job::Fold, 0)
+};
+
+/// All that is measured.
+pub const CASES: [Case; 10] = [
+    case("table to coefficients", Job::ToCoefficients, 0),
+    case("coefficients to table", Job::ToTable, 0),
+    case("evaluate", Job::Evaluate, 0),
+    case("encode", Job::Encode, 0),
+    case("decode", Job::Decode, 0),
+    case("fold", Job::Fold, 0),
+    FOLD_CHAINS,
+    case("write", Job::Write, 0),
+    case("verify, 32 queries", Job::Verify, 32),
+    case("verify, 256 queries", Job::Verify, 256),
+];
+
+impl Case {
+    /// Whether no words are multiplied, so that the reduction makes no difference.
+    pub fn adds_only(&self) -> bool {
+        matches!(self.job, Job::ToCoefficients | Job::ToTable)
+    }
+
+    /// The job's main slice: the message where no block is lent, else the block.
+    pub fn main_slice<'a>(&self, inputs: &'a Inputs) -> &'a [u32] {
+        match self.job {
+            Job::ToCoefficients | Job::ToTable | Job::Evaluate => &inputs.message,
+            _ => &inputs.block,
+        }
+    }
+}
+
+/// The times of one call, in nanoseconds.
+#[derive(Clone, Copy, Debug)]
+pub struct Times {
+    /// The library's.
+    pub library: f64,
+    /// Plain Rust's.
+    pub plain: f64,
+    /// Plain Rust's with `%`.
+    pub remainder: f64,
+    /// How far the quartiles of a side are apart, as a part of its median, at the worst side.
+    pub spread: f64,
+}
+
+/// Measures a case on inputs that have its number of queries.
+pub fn of_case(plan: Plan, case: &Case, inputs: &Inputs) -> Times {
+    let [mersenne, remainder] = case.plain;
+    let calls: [Call; 3] = [call::<Library>, mersenne, remainder];
+    let job = case.job;
+    let mut buffers = Buffers::of(job, inputs);
+    alike(job, inputs, &buffers, &calls);
+    let sides = calls.map(|call| {
+        move |buffers: &mut Buffers| {
+            black_box(call(job, black_box(inputs), buffers));
+        }
+    });
+    let sides = sides.each_ref().map(|side| side as Side<'_>);
+    let measured = measure(plan, &mut buffers, sides);
+    let [library, plain, remainder] = measured.medians;
+    Times {
+        library,
+        plain,
+        remainder,
+        spread: measured.spread,
+    }
+}
+
+/// Stops the program where a side refuses or writes other words than the library.
+fn alike(job: Job, inputs: &Inputs, buffers: &Buffers, calls: &[Call; 3]) {
+    let written = calls.map(|call| {
+        let mut buffers = buffers.clone();
+        let answer = call(job, inputs, &mut buffers);
+        assert_eq!(answer.number, 0, "{job:?} at depth {}", inputs.depth);
+        buffers
+    });
+    let same = written.windows(2).all(|pair| pair[0] == pair[1]);
+    assert!(same, "{job:?} at depth {}: other words", inputs.depth);
+}

@@ -1,0 +1,110 @@
+//! Ways to spoil a call. A job that does not take what is spoiled answers as before.
+
+use tvarchula_bench::plain::{FARTHEST, P};
+use tvarchula_bench::{Buffers, Inputs, DEEPEST, MOST_QUERIES};
+
+/// One way to spoil a call.
+pub type Damage = fn(&mut Inputs, &mut Buffers);
+
+/// All of them, by the refusals and failures that they aim at.
+pub const ALL: &[Damage] = &[
+    // 1 and 2
+    |i, _| i.depth = DEEPEST + 1,
+    |i, _| i.depth = 0,
+    |i, _| i.rate = 1,
+    |i, _| i.rate = 17,
+    // 3, and 1 where a length tells the depth
+    |i, _| i.g.push(1),
+    |i, _| longer(&mut i.t),
+    |i, _| shorter(&mut i.t2),
+    |i, _| longer(&mut i.fold_t),
+    |i, _| shorter(&mut i.fold_t2),
+    |i, _| shorter(&mut i.clearances),
+    |i, _| longer(&mut i.message),
+    |i, _| i.message.clear(),
+    |i, _| shorter(&mut i.block),
+    |i, _| longer(&mut i.z),
+    |i, _| shorter(&mut i.r),
+    |i, _| longer(&mut i.opening),
+    |_, b| longer(&mut b.result),
+    |_, b| shorter(&mut b.result),
+    |_, b| longer(&mut b.table),
+    |_, b| shorter(&mut b.work),
+    // 4
+    |i, _| set(i.g.last_mut(), P),
+    |i, _| set(i.t.last_mut(), u32::MAX),
+    |i, _| set(i.t2.last_mut(), P),
+    |i, _| set(i.fold_t.last_mut(), P + 1),
+    |i, _| set(i.fold_t2.last_mut(), P),
+    |i, _| set(i.message.last_mut(), P),
+    |i, _| set(i.block.last_mut(), u32::MAX),
+    |i, _| set(i.z.last_mut(), P),
+    |i, _| i.y = P,
+    |i, _| set(i.r.last_mut(), P),
+    |i, _| set(i.opening.last_mut(), P),
+    |i, _| i.challenge = P,
+    // 5, 6 and 7
+    |i, _| set(i.g.last_mut(), 0),
+    |i, _| equal_pair(&i.t, &mut i.t2),
+    |i, _| equal_pair(&i.fold_t, &mut i.fold_t2),
+    |i, _| i.queries.clear(),
+    |i, _| i.queries.resize(MOST_QUERIES, 0),
+    |i, _| i.queries.resize(MOST_QUERIES + 1, 0),
+    |i, _| set(i.queries.last_mut(), i.fold_t.len() as u32),
+    // 8 and 23
+    |i, _| moved(i.block.first_mut()),
+    |i, _| moved(i.block.last_mut()),
+    |i, _| queried(i),
+    // 9
+    |i, _| set(i.clearances.last_mut(), FARTHEST + 1),
+    |i, _| set(i.clearances.last_mut(), i32::MIN),
+    // 20 to 23
+    |i, _| i.y = (i.y + 1) % P,
+    |i, _| moved(i.opening.first_mut()),
+    |i, _| moved(i.opening.get_mut(3 * i.depth as usize)),
+    |i, _| moved(i.opening.last_mut()),
+    |i, _| moved(middle(&mut i.opening)),
+    |i, _| moved(middle(&mut i.g)),
+    // Other words, but nothing to refuse
+    |i, _| i.message.fill(P - 1),
+    |i, _| i.clearances.fill(-FARTHEST),
+];
+
+fn longer<T: Default>(slice: &mut Vec<T>) {
+    slice.push(T::default());
+}
+
+fn shorter<T>(slice: &mut Vec<T>) {
+    slice.pop();
+}
+
+fn set<T>(place: Option<&mut T>, word: T) {
+    if let Some(place) = place {
+        *place = word;
+    }
+}
+
+fn equal_pair(t: &[u32], t2: &mut [u32]) {
+    if let Some(&t) = t.last() {
+        set(t2.last_mut(), t);
+    }
+}
+
+/// Another residue in a place, where there is such a place.
+fn moved(place: Option<&mut u32>) {
+    if let Some(word) = place {
+        *word = word.wrapping_add(1) % P;
+    }
+}
+
+/// Another word where the last query looks first.
+fn queried(inputs: &mut Inputs) {
+    if let Some(&query) = inputs.queries.last() {
+        moved(inputs.block.get_mut(query as usize));
+    }
+}
+
+fn middle(slice: &mut [u32]) -> Option<&mut u32> {
+    let half = slice.len() / 2;
+    slice.get_mut(half)
+}
