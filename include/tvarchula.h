@@ -44,9 +44,9 @@ extern "C" {
 
 /* Words of a message, of a block of a level, of each of t and t2, and of an opening. Depth, level and rate must be legal. */
 #define TV_MESSAGE_LEN(depth) ((size_t)1 << (depth))
-#define TV_BLOCK_LEN(rate, level) ((size_t)(rate) << (level))
-#define TV_DIAGONALS_LEN(rate, depth) ((size_t)(rate) * (((size_t)1 << (depth)) - 1))
-#define TV_OPENING_LEN(rate, depth) ((size_t)3 * (depth) + 1 + TV_DIAGONALS_LEN(rate, depth))
+#define TV_BLOCK_LEN(level, rate) ((size_t)(rate) << (level))
+#define TV_DIAGONALS_LEN(depth, rate) ((size_t)(rate) * (((size_t)1 << (depth)) - 1))
+#define TV_OPENING_LEN(depth, rate) ((size_t)3 * (depth) + 1 + TV_DIAGONALS_LEN(depth, rate))
 
 typedef struct {
     uint32_t number, first, second;
@@ -72,11 +72,11 @@ tv_answer tv_coefficients_to_table(const uint32_t *message, size_t message_len, 
 /* z: depth words. *value is written only when the number is 0. */
 tv_answer tv_evaluate(uint32_t depth, const uint32_t *message, size_t message_len, const uint32_t *z, size_t z_len, uint32_t *value);
 
-/* g: rate words. t, t2: TV_DIAGONALS_LEN words, level i from rate * (2^i - 1) on. block: TV_BLOCK_LEN(rate, depth) words. */
+/* g: rate words. t, t2: TV_DIAGONALS_LEN words, level i from rate * (2^i - 1) on. block: TV_BLOCK_LEN(depth, rate) words. */
 tv_answer tv_encode(uint32_t depth, uint32_t rate, const uint32_t *g, size_t g_len, const uint32_t *t, size_t t_len,
                     const uint32_t *t2, size_t t2_len, const uint32_t *message, size_t message_len, uint32_t *block, size_t block_len);
 
-/* work: TV_BLOCK_LEN(rate, depth) words. */
+/* work: TV_BLOCK_LEN(depth, rate) words. */
 tv_answer tv_decode(uint32_t depth, uint32_t rate, const uint32_t *g, size_t g_len, const uint32_t *t, size_t t_len,
                     const uint32_t *t2, size_t t2_len, const uint32_t *block, size_t block_len, uint32_t *message, size_t message_len,
                     uint32_t *work, size_t work_len);
@@ -93,8 +93,8 @@ tv_answer tv_write_opening(uint32_t depth, uint32_t rate, const uint32_t *g, siz
                            const uint32_t *r, size_t r_len, uint32_t *opening, size_t opening_len, uint32_t *work, size_t work_len,
                            uint32_t *value);
 
-/* block: the commitment, TV_BLOCK_LEN(rate, depth) words. y: the value claimed at z. queries: 1 to TV_MOST_QUERIES places below
- * TV_BLOCK_LEN(rate, depth - 1), repeated or not; at depth 0 none. */
+/* block: the commitment, TV_BLOCK_LEN(depth, rate) words. y: the value claimed at z. queries: 1 to TV_MOST_QUERIES places below
+ * TV_BLOCK_LEN(depth - 1, rate), repeated or not; at depth 0 none. */
 tv_answer tv_verify_opening(uint32_t depth, uint32_t rate, const uint32_t *g, size_t g_len, const uint32_t *t, size_t t_len,
                             const uint32_t *t2, size_t t2_len, const uint32_t *block, size_t block_len, const uint32_t *z, size_t z_len,
                             uint32_t y, const uint32_t *r, size_t r_len, const uint32_t *queries, size_t queries_len,

@@ -4,14 +4,6 @@ ghost use Prim.Native.Nat.{_<_};
 ghost use Rattle.residue.specs.Residues.{P, el, word, inv, _⊟_, _⊠_};
 use residue::Residue;
 
-// a b
-pub fn product(a: u32, b: u32) -> u32
-    requires { ⌜ (a < P) × (b < P) ⌝ }
-    ensures { λ w. ⌜ w ≡ word (el a ⊠ el b) ⌝ }
-{
-    Residue::new(a).times(Residue::new(b)).word()
-}
-
 // a (y - x)
 pub fn stretch(a: u32, x: u32, y: u32) -> u32
     requires { ⌜ (a < P) × (x < P) × (y < P) ⌝ }

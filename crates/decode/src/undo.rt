@@ -4,6 +4,7 @@ ghost use Prim.Native.Nat.{_<_, _≤_};
 ghost use Rattle.job.specs.Limits.{deepest, widest};
 ghost use Rattle.decode.specs.Steps.{Uncrossing, uncrossed, Halved, Undoing, Undone};
 use crate::place;
+use residue::word;
 
 // At each place the line through the words u and v of the two halves: its value at 0 instead of u, its slope instead of v.
 fn uncross(n: usize, a: usize, c: usize, t: &[u32], w: &mut [u32])
@@ -53,7 +54,7 @@ pub fn undo(depth: u32, a: usize, x: u32, c: usize, t: &[u32], w: &mut [u32])
     ensures { λ _. ⌜ Undone depth a x c (now (t .entry)) (now (w .entry)) (now (w .exit)) ⌝ }
 {
     if depth == 0 {
-        w[0] = place::product(x, w[0]);
+        w[0] = word::times(x, w[0]);
         return;
     }
     let p = halved(depth, c);

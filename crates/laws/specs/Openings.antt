@@ -13,7 +13,7 @@ use borrow.Author.Tests.{eq-eqb, eqb-true, lt-ltb, ltb-true}
 use Rattle.algebra.specs.Half.{two₁}
 use Rattle.algebra.specs.Tests.{all, and-both}
 use Rattle.algebra.specs.Words.{𝔽₁}
-use Rattle.algebra.specs.WordLists.{Low, low-words, elements, toWords, elements-words, length-elements, length-words}
+use Rattle.algebra.specs.WordLists.{Low, low-words, elements, elements-words, length-elements, length-words}
 use Rattle.basefold.specs.Layout.{openingSize}
 use Rattle.basefold.specs.Checks.{Check, firstCheck, firstFailure, checks}
 use Rattle.basefold.specs.Written.{opening}
@@ -22,22 +22,14 @@ use Rattle.foldable.specs.Code.{encode, dim, Legal}
 use Rattle.foldable.specs.Encode.{length-encode}
 use Rattle.job.specs.Outcome.{done, _⨾_}
 use Rattle.job.specs.Limits.{blockSize}
-use Rattle.multilinear.specs.Polynomial.{poly}
-use Rattle.residue.specs.Residues.{P, F, K, el, word}
+use Rattle.residue.specs.Residues.{P, F, el, word}
 use Rattle.residue.specs.Scans.{below-all}
 use Rattle.code.specs.Lent.{lent, Coding}
 use Rattle.open.specs.Laws.{length-opening}
+use Rattle.open.specs.Writing.{openingWords, valueWord}
 use Rattle.verify.specs.Verdicts.{Numbers, numbersOf}
 use Rattle.verify.specs.Verifying.{most, openedLengths, openedWords, queriesOk, judgeVerifying, verification}
 use Rattle.laws.specs.Calls.{LegalRow, coding-of, lengths-of, encoded}
-
--- what writing an opening writes, and the value that it returns
-abbrev pub written : List ℕ → List ℕ → List ℕ → List ℕ → List ℕ → List ℕ → List ℕ
-written g t t' m z r = toWords 𝔽₁ (opening F 0 (lent g t t') (elements 𝔽₁ m) (elements 𝔽₁ z) (elements 𝔽₁ r))
-
--- f(z), as evaluation gives it
-abbrev pub valueAt : List ℕ → List ℕ → ℕ
-valueAt m z = word (poly K (elements 𝔽₁ m) (elements 𝔽₁ z))
 
 -- 20 with i = d, and 21 at depth 0
 abbrev pub failed : ℕ → Numbers
@@ -74,7 +66,7 @@ module _ (d c : ℕ) (g t t' : List ℕ) (𝓡 : LegalRow d c g t t') (m z r us 
   w = encoded d g t t' m
 
   abbrev o : List ℕ
-  o = written g t t' m z r
+  o = openingWords g t t' m z r
 
   depth : length (elements 𝔽₁ r) ≡ d
   depth = length-elements 𝔽₁ r ∙ lr
@@ -85,7 +77,7 @@ module _ (d c : ℕ) (g t t' : List ℕ) (𝓡 : LegalRow d c g t t') (m z r us 
   length-w : length (encoded d g t t' m) ≡ blockSize c d
   length-w = length-words 𝔽₁ _ ∙ length-encode F (lent g t t') d (coded .legal) (elements 𝔽₁ m) ∙ ap (λ k. k * 2 ^ d) (length-elements 𝔽₁ g ∙ rate)
 
-  length-o : length (written g t t' m z r) ≡ openingSize c 0 d
+  length-o : length (openingWords g t t' m z r) ≡ openingSize c 0 d
   length-o = length-words 𝔽₁ _ ∙ length-opening F 0 (lent g t t') _ _ _ legal ∙ ap₂ (λ n k. openingSize n 0 k) (length-elements 𝔽₁ g ∙ rate) depth
 
   -- nothing is refused
@@ -129,7 +121,7 @@ module _ (d c : ℕ) (g t t' : List ℕ) (𝓡 : LegalRow d c g t t') (m z r us 
   sized-z = length-elements 𝔽₁ z ∙ lz ∙ sym depth ∙ sym (zero-add (length (elements 𝔽₁ r)))
 
   -- with f(z) it is accepted
-  pub opening-accepted : (y : ℕ) → y ≡ valueAt m z → numbersOf (verification d c g t t' w z y r us o) ≡ (0, 0, 0)
+  pub opening-accepted : (y : ℕ) → y ≡ valueWord m z → numbersOf (verification d c g t t' w z y r us o) ≡ (0, 0, 0)
   opening-accepted y e =
       let h : y < P = rw e (𝔽₁ .words .val-lt _) in
       ap numbersOf
@@ -137,7 +129,7 @@ module _ (d c : ℕ) (g t t' : List ℕ) (𝓡 : LegalRow d c g t t') (m z r us 
       (honest-accepted F 0 (lent g t t') (elements 𝔽₁ m) (elements 𝔽₁ z) (elements 𝔽₁ r) legal refl sized two₁ sized-z us queries (el y) (ap el e ∙ 𝔽₁ .words .el-val _)))
 
   -- with any other value the first check fails
-  pub opening-fails : (y : ℕ) → y < P → (y ≡ valueAt m z → ⊥) → numbersOf (verification d c g t t' w z y r us o) ≡ failed d
+  pub opening-fails : (y : ℕ) → y < P → (y ≡ valueWord m z → ⊥) → numbersOf (verification d c g t t' w z y r us o) ≡ failed d
   opening-fails y h n =
       ap numbersOf
       (judged y h (some (firstCheck (length (elements 𝔽₁ r))))

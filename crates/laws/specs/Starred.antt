@@ -44,7 +44,8 @@ use Rattle.verify.specs.Verdicts.{Numbers, numbersOf}
 use Rattle.verify.specs.Verifying.{verification, judgeVerifying, openedLengths, openedWords, queriesOk}
 use Rattle.laws.specs.Calls.{LegalRow, encoded, folded}
 use Rattle.laws.specs.Folds.{fold-law}
-use Rattle.laws.specs.Openings.{written, valueAt, opening-accepted, opening-fails}
+use Rattle.open.specs.Writing.{openingWords, valueWord}
+use Rattle.laws.specs.Openings.{opening-accepted, opening-fails}
 
 -- d = 1, c = 2
 abbrev g : List ℕ
@@ -102,10 +103,10 @@ numbers =
     ∷ decodes w m
     ∷ refuses spoilt
     ∷ gives (folded 2 0 t t' w 4) (33 ∷ 33 ∷ [])
-    ∷ gives (written g t t' m (3 ∷ []) (4 ∷ [])) (2147483637 ∷ 36 ∷ 152 ∷ 33 ∷ 33 ∷ 33 ∷ [])
+    ∷ gives (openingWords g t t' m (3 ∷ []) (4 ∷ [])) (2147483637 ∷ 36 ∷ 152 ∷ 33 ∷ 33 ∷ 33 ∷ [])
     ∷ says (verdict 3 26 4 (0 ∷ 1 ∷ []) (2147483637 ∷ 36 ∷ 152 ∷ 33 ∷ 33 ∷ 33 ∷ [])) (0, 0, 0)
     ∷ says (verdict 3 27 4 (0 ∷ 1 ∷ []) (2147483637 ∷ 36 ∷ 152 ∷ 33 ∷ 33 ∷ 33 ∷ [])) (20, 1, 0)
-    ∷ gives (written g t t' m (0 ∷ []) (1 ∷ [])) (5 ∷ 0 ∷ 2147483628 ∷ 12 ∷ 12 ∷ 12 ∷ [])
+    ∷ gives (openingWords g t t' m (0 ∷ []) (1 ∷ [])) (5 ∷ 0 ∷ 2147483628 ∷ 12 ∷ 12 ∷ 12 ∷ [])
     ∷ says (verdict 0 5 1 (0 ∷ []) (5 ∷ 0 ∷ 2147483628 ∷ 12 ∷ 12 ∷ 12 ∷ [])) (0, 0, 0)
     ∷ says (verdict 0 5 1 (0 ∷ []) (5 ∷ 0 ∷ 2147483628 ∷ 13 ∷ 13 ∷ 13 ∷ [])) (23, 0, 0)
     ∷ []
@@ -186,23 +187,23 @@ low-1 x h = low-cons h (low-none P)
 block-w : encode F (lent g t t') 1 (elements 𝔽₁ m) ≡ elements 𝔽₁ w
 block-w = sym (elements-words 𝔽₁ (encode F (lent g t t') 1 (elements 𝔽₁ m))) ∙ ap (elements 𝔽₁) encodes
 
-written-3 : written g t t' m (3 ∷ []) (4 ∷ []) ≡ 2147483637 ∷ 36 ∷ 152 ∷ 33 ∷ 33 ∷ 33 ∷ []
+written-3 : openingWords g t t' m (3 ∷ []) (4 ∷ []) ≡ 2147483637 ∷ 36 ∷ 152 ∷ 33 ∷ 33 ∷ 33 ∷ []
 unfolding F₁ W₁ elements toWords diagonal encode generator block times zip zip₄ fold opening rounds blocks descend h final overCorners form monomial corner eq row sum prod bit fixed num of addZ mulZ subZ negZ
 written-3 =
     ap (λ l. 2147483637 ∷ 36 ∷ 152 ∷ 33 ∷ l)
     (ap (λ b. toWords 𝔽₁ (foldAlong F 2 (el 4) (elements 𝔽₁ t) (elements 𝔽₁ t') b)) block-w ∙ fold-4)
 
-written-0 : written g t t' m (0 ∷ []) (1 ∷ []) ≡ 5 ∷ 0 ∷ 2147483628 ∷ 12 ∷ 12 ∷ 12 ∷ []
+written-0 : openingWords g t t' m (0 ∷ []) (1 ∷ []) ≡ 5 ∷ 0 ∷ 2147483628 ∷ 12 ∷ 12 ∷ 12 ∷ []
 unfolding F₁ W₁ elements toWords diagonal encode generator block times zip zip₄ fold opening rounds blocks descend h final overCorners form monomial corner eq row sum prod bit fixed num of addZ mulZ subZ negZ
 written-0 =
     ap (λ l. 5 ∷ 0 ∷ 2147483628 ∷ 12 ∷ l)
     (ap (λ b. toWords 𝔽₁ (foldAlong F 2 (el 1) (elements 𝔽₁ t) (elements 𝔽₁ t') b)) block-w ∙ fold-1)
 
-value-3 : valueAt m (3 ∷ []) ≡ 26
+value-3 : valueWord m (3 ∷ []) ≡ 26
 unfolding F₁ W₁ elements form monomial row sum prod bit of addZ mulZ
 value-3 = refl
 
-value-0 : valueAt m (0 ∷ []) ≡ 5
+value-0 : valueWord m (0 ∷ []) ≡ 5
 unfolding F₁ W₁ elements form monomial row sum prod bit of addZ mulZ
 value-0 = refl
 

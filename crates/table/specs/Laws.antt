@@ -3,18 +3,16 @@ use mathlib.Core.Path.{_≡_, refl, sym, ap, ap₂, _∙_, subst}
 use mathlib.Core.Bool.{true, _&&_}
 use mathlib.Core.List.{List, [], _∷_, map}
 use Prim.Native.Nat.{ℕ, _^_}
-use lib.Dec.{ltb}
 use lib.IntN.{ℤ}
 use lib.ListN.{length, length-map}
-use borrow.Author.Tests.{lt-ltb}
-use Rattle.algebra.specs.Tests.{all, and-both, all-of}
+use Rattle.algebra.specs.Tests.{all, and-both}
 use Rattle.algebra.specs.Words.{𝔽₁}
 use Rattle.algebra.specs.WordLists.{Low, elements, toWords, length-elements, length-words, elements-words, words-elements, low-words}
 use Rattle.multilinear.specs.Table.{table, coefficients, length-table, length-coefficients, table-coefficients, table-injective}
 use Rattle.job.specs.declared.Answer.{Answer}
 use Rattle.job.specs.Outcome.{Outcome, done, outcome, kept}
 use Rattle.residue.specs.Residues.{P, K, Element, el, word}
-use Rattle.residue.specs.Scans.{allBelow, all-below}
+use Rattle.residue.specs.Scans.{all-below, below-all}
 use Rattle.table.specs.Clearances.{inRange, residueOf, clearanceOf, residue-lt, clearance-residue, clearance-range, residue-clearance}
 use Rattle.table.specs.Depth.{isPower, exponent, exponent-is}
 use Rattle.table.specs.Judged.{table-passed, table-done, message-passed, message-done}
@@ -46,9 +44,6 @@ message-unique t m m′ p q =
     ∙ ap (toWords 𝔽₁)
     (table-injective K d (elements 𝔽₁ m) (elements 𝔽₁ m′) (length-elements 𝔽₁ m ∙ p .size) (length-elements 𝔽₁ m′ ∙ q .size) (p .values ∙ sym (q .values)))
     ∙ words-elements 𝔽₁ m′ (q .low)
-
-below-all : (ws : List ℕ) → Low P ws → allBelow ws ≡ true
-below-all ws l = all-of (λ x. ltb x P) ws 0 (λ k h. lt-ltb _ _ (l .low k h))
 
 -- a job that is done has left what it makes
 pub made : {A B : Type 0} (o : Outcome A) {a : A} (old new : List B) (M : Type 0) → o ≡ done a → Leaves o old new M → M

@@ -16,7 +16,7 @@ fn main() -> Result<(), Box<dyn Error>> {
     // The row and the diagonals: both sides make them from one seed.
     let mut seeded = Generator(2024);
     let g: Vec<u32> = (0..RATE).map(|_| seeded.non_zero()).collect();
-    let places = 0..diagonals_len(RATE, DEPTH);
+    let places = 0..diagonals_len(DEPTH, RATE);
     let (t, t2): (Vec<u32>, Vec<u32>) = places.map(|_| seeded.pair()).unzip();
     let code = Code {
         depth: DEPTH,
@@ -37,7 +37,7 @@ fn main() -> Result<(), Box<dyn Error>> {
     let layout = 5;
     let mut drawn = Generator(7);
     let r: Vec<u32> = (0..DEPTH).map(|_| drawn.residue()).collect();
-    let bound = block_len(RATE, DEPTH - 1) as u32;
+    let bound = block_len(DEPTH - 1, RATE) as u32;
     let queries: Vec<u32> = (0..8).map(|_| drawn.below(bound)).collect();
     println!("cell     asks for layout {layout}");
 

@@ -33,7 +33,7 @@ pub fn evaluate(depth: u32, message: &[u32], z: &[u32]) -> Result<u32, Refusal> 
     Ok(value)
 }
 
-/// Writes the codeword of a message, [`block_len`]`(rate, depth)` words: the commitment.
+/// Writes the codeword of a message, [`block_len`]`(depth, rate)` words: the commitment.
 ///
 /// ```
 /// use tvarchula::{encode, Code};
@@ -49,7 +49,7 @@ pub fn encode(code: &Code<'_>, message: &[u32], block: &mut [u32]) -> Result<(),
 
 /// [`encode`] into a new vector.
 pub fn encode_vec(code: &Code<'_>, message: &[u32]) -> Result<Vec<u32>, Refusal> {
-    let mut block = vec![0; block_len(code.rate, code.depth)];
+    let mut block = vec![0; block_len(code.depth, code.rate)];
     encode(code, message, &mut block)?;
     Ok(block)
 }
@@ -81,7 +81,7 @@ pub fn decode(
 /// [`decode`] into a new vector.
 pub fn decode_vec(code: &Code<'_>, block: &[u32]) -> Result<Vec<u32>, Refusal> {
     let mut message = vec![0; message_len(code.depth)];
-    let mut work = vec![0; block_len(code.rate, code.depth)];
+    let mut work = vec![0; block_len(code.depth, code.rate)];
     decode(code, block, &mut message, &mut work)?;
     Ok(message)
 }
@@ -120,7 +120,7 @@ pub fn fold_vec(
     block: &[u32],
     challenge: u32,
 ) -> Result<Vec<u32>, Refusal> {
-    let mut folded = vec![0; block_len(rate, level.saturating_sub(1))];
+    let mut folded = vec![0; block_len(level.saturating_sub(1), rate)];
     fold(level, rate, t, t2, block, challenge, &mut folded)?;
     Ok(folded)
 }

@@ -68,3 +68,8 @@ pub use sizes::{
     LONGEST_TABLE, MODULUS, MOST_QUERIES, MOST_RATE,
 };
 pub use verdict::{Failure, Verdict};
+
+/// The Rust program of the calling document, run by `cargo test`.
+#[cfg(doctest)]
+#[doc = include_str!("../../../docs/CALLING.md")]
+struct Calling;

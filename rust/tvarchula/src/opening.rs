@@ -48,8 +48,8 @@ pub fn write_opening_vec(
 
 /// Whether the opening shows that the committed polynomial has the value `y` at `z`.
 ///
-/// `block` is the commitment, [`block_len`](crate::block_len)`(rate, depth)` words. `queries` are 1
-/// to 256 places below `block_len(rate, depth - 1)`, and none at depth 0. An opening that is well
+/// `block` is the commitment, [`block_len`](crate::block_len)`(depth, rate)` words. `queries` are 1
+/// to 256 places below `block_len(depth - 1, rate)`, and none at depth 0. An opening that is well
 /// formed and wrong is no refusal: it is [`Verdict::Rejected`].
 ///
 /// ```

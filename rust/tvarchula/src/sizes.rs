@@ -37,11 +37,11 @@ pub const fn message_len(depth: u32) -> usize {
 ///
 /// ```
 /// use tvarchula::block_len;
-/// assert_eq!(block_len(2, 1), 4);
+/// assert_eq!(block_len(1, 2), 4);
 /// assert_eq!(block_len(16, 16), 1_048_576);
-/// assert_eq!(block_len(17, 1), 0); // no legal rate
+/// assert_eq!(block_len(1, 17), 0); // no legal rate
 /// ```
-pub const fn block_len(rate: u32, level: u32) -> usize {
+pub const fn block_len(level: u32, rate: u32) -> usize {
     if LEAST_RATE <= rate && rate <= MOST_RATE {
         rate as usize * message_len(level)
     } else {
@@ -51,17 +51,17 @@ pub const fn block_len(rate: u32, level: u32) -> usize {
 
 /// Words of each of the two diagonals: rate * (2^depth - 1).
 ///
-/// Level i lies from `diagonals_len(rate, i)` to `diagonals_len(rate, i + 1)`:
+/// Level i lies from `diagonals_len(i, rate)` to `diagonals_len(i + 1, rate)`:
 ///
 /// ```
 /// use tvarchula::{block_len, diagonals_len};
-/// let level_1 = diagonals_len(2, 1)..diagonals_len(2, 2);
+/// let level_1 = diagonals_len(1, 2)..diagonals_len(2, 2);
 /// assert_eq!(level_1, 2..6);
-/// assert_eq!(level_1.len(), block_len(2, 1));
-/// assert_eq!(diagonals_len(2, 0), 0);
+/// assert_eq!(level_1.len(), block_len(1, 2));
+/// assert_eq!(diagonals_len(0, 2), 0);
 /// ```
-pub const fn diagonals_len(rate: u32, depth: u32) -> usize {
-    block_len(rate, depth).saturating_sub(rate as usize)
+pub const fn diagonals_len(depth: u32, rate: u32) -> usize {
+    block_len(depth, rate).saturating_sub(rate as usize)
 }
 
 /// Words of an opening: 3 * depth + 1 + rate * (2^depth - 1).
@@ -77,8 +77,8 @@ pub const fn diagonals_len(rate: u32, depth: u32) -> usize {
 /// assert_eq!(opening_len(17, 2), 0); // no legal depth
 /// ```
 pub const fn opening_len(depth: u32, rate: u32) -> usize {
-    if block_len(rate, depth) == 0 {
+    if block_len(depth, rate) == 0 {
         return 0;
     }
-    3 * depth as usize + 1 + diagonals_len(rate, depth)
+    3 * depth as usize + 1 + diagonals_len(depth, rate)
 }

@@ -191,8 +191,8 @@ fn query_and_level_of_a_wrong_fold() {
 fn largest_sizes() {
     const DEPTH: u32 = 16;
     const RATE: u32 = 16;
-    let t = vec![2; diagonals_len(RATE, DEPTH)];
-    let t2 = vec![3; diagonals_len(RATE, DEPTH)];
+    let t = vec![2; diagonals_len(DEPTH, RATE)];
+    let t2 = vec![3; diagonals_len(DEPTH, RATE)];
     let g = [1; RATE as usize];
     let code = Code {
         depth: DEPTH,

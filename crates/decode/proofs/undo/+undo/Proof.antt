@@ -8,7 +8,7 @@ use borrow.Fn.PlainCycle.{Measures, is, falls, and}
 use Rattle.decode.proofs.undo.undo.Reads as undo
 use Rattle.decode.proofs.undo.undo.Kinds as undo-kinds
 use Rattle.decode.proofs.undo.+undo.Lts-undo as undo-lts
-use Rattle.decode.proofs.place.product.Reads as product-reads
+use Rattle.residue.proofs.word.times.Reads as times-reads
 use Rattle.decode.proofs.undo.halved.Reads as halved-reads
 use Rattle.decode.proofs.undo.uncross.Reads as uncross-reads
 use Rattle.decode.proofs.undo.+undo.{statement}
@@ -23,9 +23,9 @@ undo-at t = and 2 undo-kinds.ps (is 2 undo-kinds.ps μ-undo t) undo.Pre
 abbrev undo-below : ℕ → In 2 undo-kinds.ps
 undo-below t = and 2 undo-kinds.ps (falls 2 undo-kinds.ps _<_ μ-undo t) undo.Pre
 
-undo-slice-read-product : (t : ℕ) → undo-lts.Need-slice-read-product (
-  product-reads.Asked,
-  product-reads.Learnt,
+undo-slice-read-times : (t : ℕ) → undo-lts.Need-slice-read-times (
+  times-reads.Asked,
+  times-reads.Learnt,
   halved-reads.Asked,
   halved-reads.Learnt,
   uncross-reads.Asked,
@@ -33,11 +33,11 @@ undo-slice-read-product : (t : ℕ) → undo-lts.Need-slice-read-product (
   undo-below t,
   undo.Post,
 ) (undo-at t) undo.Post
-undo-slice-read-product t c = let s = c .before .before .before .before in let a = s .args in some-words (a .depth) (a .a) (a .x) (a .c) (a .t .now) (a .w .now) (s .pre .1)
+undo-slice-read-times t c = let s = c .before .before .before .before in let a = s .args in some-words (a .depth) (a .a) (a .x) (a .c) (a .t .now) (a .w .now) (s .pre .1)
 
-undo-product-requires : (t : ℕ) → undo-lts.Need-product-requires (
-  product-reads.Asked,
-  product-reads.Learnt,
+undo-times-requires : (t : ℕ) → undo-lts.Need-times-requires (
+  times-reads.Asked,
+  times-reads.Learnt,
   halved-reads.Asked,
   halved-reads.Learnt,
   uncross-reads.Asked,
@@ -45,12 +45,12 @@ undo-product-requires : (t : ℕ) → undo-lts.Need-product-requires (
   undo-below t,
   undo.Post,
 ) (undo-at t) undo.Post
-undo-product-requires t c κs =
+undo-times-requires t c κs =
     let s = c .before .before .before .before in let a = s .args in (s .pre .1 .unit, s .pre .1 .block .low 0 (some-words (a .depth) (a .a) (a .x) (a .c) (a .t .now) (a .w .now) (s .pre .1)))
 
 undo-slice-write-w : (t : ℕ) → undo-lts.Need-slice-write-w (
-  product-reads.Asked,
-  product-reads.Learnt,
+  times-reads.Asked,
+  times-reads.Learnt,
   halved-reads.Asked,
   halved-reads.Learnt,
   uncross-reads.Asked,
@@ -61,8 +61,8 @@ undo-slice-write-w : (t : ℕ) → undo-lts.Need-slice-write-w (
 undo-slice-write-w t c = let s = c .before .before .before .before .before in let a = s .args in some-words (a .depth) (a .a) (a .x) (a .c) (a .t .now) (a .w .now) (s .pre .1)
 
 undo-same-length : (t : ℕ) → undo-lts.Need-same-length (
-  product-reads.Asked,
-  product-reads.Learnt,
+  times-reads.Asked,
+  times-reads.Learnt,
   halved-reads.Asked,
   halved-reads.Learnt,
   uncross-reads.Asked,
@@ -73,8 +73,8 @@ undo-same-length : (t : ℕ) → undo-lts.Need-same-length (
 undo-same-length t c = simp length-set
 
 undo-returns : (t : ℕ) → undo-lts.Need-returns (
-  product-reads.Asked,
-  product-reads.Learnt,
+  times-reads.Asked,
+  times-reads.Learnt,
   halved-reads.Asked,
   halved-reads.Learnt,
   uncross-reads.Asked,
@@ -83,11 +83,11 @@ undo-returns : (t : ℕ) → undo-lts.Need-returns (
   undo.Post,
 ) (undo-at t) undo.Post
 undo-returns t c =
-    let s = c .before .before .before .before .before in let a = s .args in undo-none (a .depth) (a .a) (a .x) (a .c) (a .t .now) (a .w .now) (s .pre .1) (omega arith) _ (c .product .ensures)
+    let s = c .before .before .before .before .before in let a = s .args in undo-none (a .depth) (a .a) (a .x) (a .c) (a .t .now) (a .w .now) (s .pre .1) (omega arith) _ (c .times .ensures)
 
 undo-halved-requires : (t : ℕ) → undo-lts.Need-halved-requires (
-  product-reads.Asked,
-  product-reads.Learnt,
+  times-reads.Asked,
+  times-reads.Learnt,
   halved-reads.Asked,
   halved-reads.Learnt,
   uncross-reads.Asked,
@@ -98,8 +98,8 @@ undo-halved-requires : (t : ℕ) → undo-lts.Need-halved-requires (
 undo-halved-requires t c κs = let s = c .before .before .before in let a = s .args in (omega arith, s .pre .1 .depth, s .pre .1 .wide)
 
 undo-add-q : (t : ℕ) → undo-lts.Need-add-q (
-  product-reads.Asked,
-  product-reads.Learnt,
+  times-reads.Asked,
+  times-reads.Learnt,
   halved-reads.Asked,
   halved-reads.Learnt,
   uncross-reads.Asked,
@@ -111,8 +111,8 @@ undo-add-q t c =
     let s = c .before .before .before .before .before in let a = s .args in let p = c .before .halved in let u = uncrossing (a .depth) (a .a) (a .x) (a .c) (a .t .now) (a .w .now) (s .pre .1) (p .result .half) (p .result .skip) (p .result .off) (p .result .low) (p .ensures) .within in omega arith
 
 undo-sub-b : (t : ℕ) → undo-lts.Need-sub-b (
-  product-reads.Asked,
-  product-reads.Learnt,
+  times-reads.Asked,
+  times-reads.Learnt,
   halved-reads.Asked,
   halved-reads.Learnt,
   uncross-reads.Asked,
@@ -124,8 +124,8 @@ undo-sub-b t c =
     let s = c .before .before .before .before .before in let a = s .args in let p = c .before .halved in half-before (a .depth) (a .a) (a .x) (a .c) (a .t .now) (a .w .now) (s .pre .1) (p .result .half) (p .result .skip) (p .result .off) (p .result .low) (p .ensures)
 
 undo-mul-uncross : (t : ℕ) → undo-lts.Need-mul-uncross (
-  product-reads.Asked,
-  product-reads.Learnt,
+  times-reads.Asked,
+  times-reads.Learnt,
   halved-reads.Asked,
   halved-reads.Learnt,
   uncross-reads.Asked,
@@ -137,8 +137,8 @@ undo-mul-uncross t c =
     let s = c .before .before .before .before .before in let a = s .args in let p = c .before .halved in let u = off-within (a .depth) (a .a) (a .x) (a .c) (a .t .now) (a .w .now) (s .pre .1) (p .result .half) (p .result .skip) (p .result .off) (p .result .low) (p .ensures) in omega arith
 
 undo-sub-uncross : (t : ℕ) → undo-lts.Need-sub-uncross (
-  product-reads.Asked,
-  product-reads.Learnt,
+  times-reads.Asked,
+  times-reads.Learnt,
   halved-reads.Asked,
   halved-reads.Learnt,
   uncross-reads.Asked,
@@ -150,8 +150,8 @@ undo-sub-uncross t c =
     let s = c .before .before .before .before .before in let a = s .args in let p = c .before .halved in off-within (a .depth) (a .a) (a .x) (a .c) (a .t .now) (a .w .now) (s .pre .1) (p .result .half) (p .result .skip) (p .result .off) (p .result .low) (p .ensures)
 
 undo-part-uncross-start : (t : ℕ) → undo-lts.Need-part-uncross-start (
-  product-reads.Asked,
-  product-reads.Learnt,
+  times-reads.Asked,
+  times-reads.Learnt,
   halved-reads.Asked,
   halved-reads.Learnt,
   uncross-reads.Asked,
@@ -163,8 +163,8 @@ undo-part-uncross-start t c =
     let s = c .before .before .before .before .before in let a = s .args in let p = c .before .halved in off-within (a .depth) (a .a) (a .x) (a .c) (a .t .now) (a .w .now) (s .pre .1) (p .result .half) (p .result .skip) (p .result .off) (p .result .low) (p .ensures)
 
 undo-part-uncross-end : (t : ℕ) → undo-lts.Need-part-uncross-end (
-  product-reads.Asked,
-  product-reads.Learnt,
+  times-reads.Asked,
+  times-reads.Learnt,
   halved-reads.Asked,
   halved-reads.Learnt,
   uncross-reads.Asked,
@@ -175,8 +175,8 @@ undo-part-uncross-end : (t : ℕ) → undo-lts.Need-part-uncross-end (
 undo-part-uncross-end t c = search needs
 
 undo-uncross-requires : (t : ℕ) → undo-lts.Need-uncross-requires (
-  product-reads.Asked,
-  product-reads.Learnt,
+  times-reads.Asked,
+  times-reads.Learnt,
   halved-reads.Asked,
   halved-reads.Learnt,
   uncross-reads.Asked,
@@ -188,8 +188,8 @@ undo-uncross-requires t c κs =
     let s = c .before .before .before .before .before .before .before in let a = s .args in let p = c .before .before .before .halved in uncrossing (a .depth) (a .a) (a .x) (a .c) (a .t .now) (a .w .now) (s .pre .1) (p .result .half) (p .result .skip) (p .result .off) (p .result .low) (p .ensures)
 
 undo-undo-requires : (t : ℕ) → undo-lts.Need-undo-requires (
-  product-reads.Asked,
-  product-reads.Learnt,
+  times-reads.Asked,
+  times-reads.Learnt,
   halved-reads.Asked,
   halved-reads.Learnt,
   uncross-reads.Asked,
@@ -201,8 +201,8 @@ undo-undo-requires t c κs =
     let s = c .before .before .before .before .before .before .before .before .before .before .before in let a = s .args in let p = c .before .before .before .before .before .before .before .halved in (omega (arith, p .ensures .low-is, s .pre .0), undo-left (a .depth) (a .a) (a .x) (a .c) (a .t .now) (a .w .now) (s .pre .1) (p .result .half) (p .result .skip) (p .result .off) (p .result .low) (p .ensures) (c .before .before .before .uncross .last .1 .1 .1 .1 .0) (c .before .before .before .uncross .kept .1 .1 .1 .1 .0) (c .before .before .before .uncross .ensures))
 
 undo-mul-undo : (t : ℕ) → undo-lts.Need-mul-undo (
-  product-reads.Asked,
-  product-reads.Learnt,
+  times-reads.Asked,
+  times-reads.Learnt,
   halved-reads.Asked,
   halved-reads.Learnt,
   uncross-reads.Asked,
@@ -214,8 +214,8 @@ undo-mul-undo t c =
     let s = c .before .before .before .before .before .before .before .before .before .before .before .before .before .before in let a = s .args in let p = c .before .before .before .before .before .before .before .before .before .before .halved in let u = half-within (a .depth) (a .a) (a .x) (a .c) (a .t .now) (a .w .now) (s .pre .1) (p .result .half) (p .result .skip) (p .result .off) (p .result .low) (p .ensures) (c .before .before .before .before .before .before .uncross .last .1 .1 .1 .1 .0) (c .before .before .before .before .before .before .uncross .kept .1 .1 .1 .1 .0) (c .before .before .before .before .before .before .uncross .ensures) (c .before .before .undo .last .1 .1 .1 .1 .1 .0) (c .before .before .undo .kept .1 .1 .1 .1 .1 .0) (c .before .before .undo .ensures) in omega arith
 
 undo-sub-undo : (t : ℕ) → undo-lts.Need-sub-undo (
-  product-reads.Asked,
-  product-reads.Learnt,
+  times-reads.Asked,
+  times-reads.Learnt,
   halved-reads.Asked,
   halved-reads.Learnt,
   uncross-reads.Asked,
@@ -227,8 +227,8 @@ undo-sub-undo t c =
     let s = c .before .before .before .before .before .before .before .before .before .before .before .before .before .before in let a = s .args in let p = c .before .before .before .before .before .before .before .before .before .before .halved in half-within (a .depth) (a .a) (a .x) (a .c) (a .t .now) (a .w .now) (s .pre .1) (p .result .half) (p .result .skip) (p .result .off) (p .result .low) (p .ensures) (c .before .before .before .before .before .before .uncross .last .1 .1 .1 .1 .0) (c .before .before .before .before .before .before .uncross .kept .1 .1 .1 .1 .0) (c .before .before .before .before .before .before .uncross .ensures) (c .before .before .undo .last .1 .1 .1 .1 .1 .0) (c .before .before .undo .kept .1 .1 .1 .1 .1 .0) (c .before .before .undo .ensures)
 
 undo-part-undo-start : (t : ℕ) → undo-lts.Need-part-undo-start (
-  product-reads.Asked,
-  product-reads.Learnt,
+  times-reads.Asked,
+  times-reads.Learnt,
   halved-reads.Asked,
   halved-reads.Learnt,
   uncross-reads.Asked,
@@ -240,8 +240,8 @@ undo-part-undo-start t c =
     let s = c .before .before .before .before .before .before .before .before .before .before .before .before .before .before in let a = s .args in let p = c .before .before .before .before .before .before .before .before .before .before .halved in half-within (a .depth) (a .a) (a .x) (a .c) (a .t .now) (a .w .now) (s .pre .1) (p .result .half) (p .result .skip) (p .result .off) (p .result .low) (p .ensures) (c .before .before .before .before .before .before .uncross .last .1 .1 .1 .1 .0) (c .before .before .before .before .before .before .uncross .kept .1 .1 .1 .1 .0) (c .before .before .before .before .before .before .uncross .ensures) (c .before .before .undo .last .1 .1 .1 .1 .1 .0) (c .before .before .undo .kept .1 .1 .1 .1 .1 .0) (c .before .before .undo .ensures)
 
 undo-part-undo-end : (t : ℕ) → undo-lts.Need-part-undo-end (
-  product-reads.Asked,
-  product-reads.Learnt,
+  times-reads.Asked,
+  times-reads.Learnt,
   halved-reads.Asked,
   halved-reads.Learnt,
   uncross-reads.Asked,
@@ -252,8 +252,8 @@ undo-part-undo-end : (t : ℕ) → undo-lts.Need-part-undo-end (
 undo-part-undo-end t c = search needs
 
 undo-undo-requires-2 : (t : ℕ) → undo-lts.Need-undo-requires-2 (
-  product-reads.Asked,
-  product-reads.Learnt,
+  times-reads.Asked,
+  times-reads.Learnt,
   halved-reads.Asked,
   halved-reads.Learnt,
   uncross-reads.Asked,
@@ -265,8 +265,8 @@ undo-undo-requires-2 t c κs =
     let s = c .before .before .before .before .before .before .before .before .before .before .before .before .before .before .before in let a = s .args in let p = c .before .before .before .before .before .before .before .before .before .before .before .halved in (omega (arith, p .ensures .low-is, s .pre .0), undo-right (a .depth) (a .a) (a .x) (a .c) (a .t .now) (a .w .now) (s .pre .1) (p .result .half) (p .result .skip) (p .result .off) (p .result .low) (p .ensures) (c .before .before .before .before .before .before .before .uncross .last .1 .1 .1 .1 .0) (c .before .before .before .before .before .before .before .uncross .kept .1 .1 .1 .1 .0) (c .before .before .before .before .before .before .before .uncross .ensures) (c .before .before .before .undo .last .1 .1 .1 .1 .1 .0) (c .before .before .before .undo .kept .1 .1 .1 .1 .1 .0) (c .before .before .before .undo .ensures))
 
 undo-same-length-2 : (t : ℕ) → undo-lts.Need-same-length-2 (
-  product-reads.Asked,
-  product-reads.Learnt,
+  times-reads.Asked,
+  times-reads.Learnt,
   halved-reads.Asked,
   halved-reads.Learnt,
   uncross-reads.Asked,
@@ -278,8 +278,8 @@ undo-same-length-2 t c =
     let s = c .before .before .before .before .before .before .before .before .before .before .before .before .before .before .before .before .before .before in let a = s .args in let p = c .before .before .before .before .before .before .before .before .before .before .before .before .before .before .halved in length-out (a .depth) (a .a) (a .x) (a .c) (a .t .now) (a .w .now) (s .pre .1) (p .result .half) (p .result .skip) (p .result .off) (p .result .low) (p .ensures) (c .before .before .before .before .before .before .before .before .before .before .uncross .last .1 .1 .1 .1 .0) (c .before .before .before .before .before .before .before .before .before .before .uncross .kept .1 .1 .1 .1 .0) (c .before .before .before .before .before .before .before .before .before .before .uncross .ensures) (c .before .before .before .before .before .before .undo .last .1 .1 .1 .1 .1 .0) (c .before .before .before .before .before .before .undo .kept .1 .1 .1 .1 .1 .0) (c .before .before .before .before .before .before .undo .ensures) (c .before .before .undo2 .last .1 .1 .1 .1 .1 .0) (c .before .before .undo2 .kept .1 .1 .1 .1 .1 .0)
 
 undo-returns-2 : (t : ℕ) → undo-lts.Need-returns-2 (
-  product-reads.Asked,
-  product-reads.Learnt,
+  times-reads.Asked,
+  times-reads.Learnt,
   halved-reads.Asked,
   halved-reads.Learnt,
   uncross-reads.Asked,
@@ -292,8 +292,8 @@ undo-returns-2 t c =
 
 pub +undo-spec : {M : Type 1} → statement M
 +undo-spec = close μ-undo λ t. undo-lts.spec (
-  product-reads.Asked,
-  product-reads.Learnt,
+  times-reads.Asked,
+  times-reads.Learnt,
   halved-reads.Asked,
   halved-reads.Learnt,
   uncross-reads.Asked,
@@ -303,8 +303,8 @@ pub +undo-spec : {M : Type 1} → statement M
 )
     (undo-at t)
     undo.Post
-    (undo-slice-read-product t)
-    (undo-product-requires t)
+    (undo-slice-read-times t)
+    (undo-times-requires t)
     (undo-slice-write-w t)
     (undo-same-length t)
     (undo-returns t)

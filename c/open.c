@@ -1,0 +1,38 @@
+/* A planner commits to two clearances and opens one; a cell verifies it against the commitment, reads it, and refuses another value. */
+#include <stdio.h>
+
+#include "tvarchula.h"
+
+enum { DEPTH = 1, RATE = 2 };
+
+int main(void)
+{
+    /* Planner and cell agree on the code: depth, rate, base row, two diagonals. */
+    const uint32_t g[] = {1, 1}, t[] = {2, 3}, t2[] = {2147483645u, 2147483644u};
+
+    /* Planner: a table of two clearances, its coefficients, the commitment. */
+    const int32_t table[] = {1250, -300};
+    uint32_t message[TV_MESSAGE_LEN(DEPTH)], block[TV_BLOCK_LEN(DEPTH, RATE)];
+    if (tv_table_to_coefficients(table, 2, message, 2).number != 0)
+        return 1;
+    if (tv_encode(DEPTH, RATE, g, 2, t, 2, t2, 2, message, 2, block, 4).number != 0)
+        return 1;
+
+    /* Entry 1 is opened at the corner {1}, under the challenge r. */
+    const uint32_t z[] = {1}, r[] = {77}, queries[] = {0, 1};
+    uint32_t opening[TV_OPENING_LEN(DEPTH, RATE)], work[2 * TV_MESSAGE_LEN(DEPTH)], value;
+    if (tv_write_opening(DEPTH, RATE, g, 2, t, 2, t2, 2, message, 2, z, 1, r, 1, opening, 6, work, 4, &value).number != 0)
+        return 1;
+
+    /* Cell: verifies, then reads. */
+    tv_answer verdict = tv_verify_opening(DEPTH, RATE, g, 2, t, 2, t2, 2, block, 4, z, 1, value, r, 1, queries, 2, opening, 6);
+    if (verdict.number != 0)
+        return 1;
+    tv_reading reading = tv_read_clearance(value);
+    printf("entry 1 accepted: %s %u\n", reading.kind == TV_FREE ? "free" : "overlap", (unsigned)reading.amount);
+
+    /* The other entry's clearance instead. */
+    verdict = tv_verify_opening(DEPTH, RATE, g, 2, t, 2, t2, 2, block, 4, z, 1, 1250, r, 1, queries, 2, opening, 6);
+    printf("1250 instead: %u at %u\n", (unsigned)verdict.number, (unsigned)verdict.first);
+    return verdict.number == 20 ? 0 : 1;
+}
