@@ -7,7 +7,7 @@ use native.Mathlib.Nat.{two-pow-succ}
 use native.Mathlib.Omega.{arith}
 use lib.Dec.{eqb}
 use lib.ListN.{length, take, drop, getD, length-take, length-drop}
-use lib.Seq.{take-all, take-suc}
+use lib.Seq.{take-all, take-suc, getD-take, getD-drop}
 use borrow.Author.Tests.{eqb-true}
 use Rattle.algebra.specs.Tests.{and-both}
 use Rattle.algebra.specs.Words.{𝔽₁}
@@ -83,6 +83,22 @@ module _ (m z : List ℕ) (𝓔 : Evaluates m z) (lo : 0 < length z) where
       let b : el r ≡ poly K (drop (2 ^ length y) (elements 𝔽₁ m)) y =
       ap el el-r ∙ 𝔽₁ .words .el-val _ ∙ ap (λ w. poly K w y) (ap (elements 𝔽₁) rest ∙ elements-drop 𝔽₁ (length m / 2) m ∙ ap (λ k. drop k (elements 𝔽₁ m)) size) in
       e ∙ ap word (ap₂ (λ s t. s ⊞ x ⊠ t) a b ∙ sym (poly-top K (elements 𝔽₁ m) y x) ∙ ap (poly K (elements 𝔽₁ m)) (sym (elements-append 𝔽₁ (lower z) (top z ∷ [])) ∙ ap (elements 𝔽₁) last))
+
+  -- two words are the values of the halves
+  pub pair-size : length z ≡ 1 → length m ≡ 2
+  pair-size e = 𝓔 .size ∙ ap (λ k. 2 ^ k) e
+
+  pub pair : length z ≡ 1 → (v : ℕ) → v ≡ word (el (getD m 0 0) ⊞ el (getD z 0 0) ⊠ el (getD m 1 0)) → v ≡ word (poly K (elements 𝔽₁ m) (elements 𝔽₁ z))
+  pair e v p =
+      let n = pair-size e in
+      let half : length m / 2 ≡ 1 = omega (arith, n) in
+      let none : length (lower z) ≡ 0 = length-lower ∙ omega arith in
+      let first : getD (take (length m / 2) m) 0 0 ≡ getD m 0 0 = getD-take (length m / 2) m 0 0 (omega (arith, half)) in
+      let second : getD (take (length m - length m / 2) (drop (length m / 2) m)) 0 0 ≡ getD m 1 0 =
+      ap (λ l. getD l 0 0) rest ∙ getD-drop (length m / 2) m 0 0 ∙ ap (λ k. getD m k 0) (omega (arith, half)) in
+      let last-is : top z ≡ getD z 0 0 = ap (λ k. getD z k 0) (omega arith) in
+      joined (getD m 0 0) (getD m 1 0) v (sym first ∙ one-word _ (lower z) left none .1) (sym second ∙ one-word _ (lower z) right none .1)
+      (p ∙ ap (λ x. word (el (getD m 0 0) ⊞ el x ⊠ el (getD m 1 0))) (sym last-is))
 
 -- the job's tests have passed
 pub evaluates : (d : ℕ) (m z : List ℕ) → judgeEvaluating d m z ≡ done tt → Evaluates m z

@@ -19,7 +19,8 @@ pub enum Evaluation {
     Refused(Refusal),
 }
 
-// By the top variable: the value of the left half plus that variable times the value of the right half.
+// By the top variable: the value of the left half plus that variable times the value of the right half. Two words are their own halves' values:
+// without that case there would be twice as many calls.
 pub fn value(m: &[u32], z: &[u32]) -> u32
     requires { ⌜ Evaluates (now m) (now z) ⌝ }
     ensures { λ v. ⌜ v ≡ word (poly K (elements 𝔽₁ (now (m .entry))) (elements 𝔽₁ (now (z .entry)))) ⌝ }
@@ -27,6 +28,9 @@ pub fn value(m: &[u32], z: &[u32]) -> u32
     let d = z.len();
     if d == 0 {
         return m[0];
+    }
+    if d == 1 {
+        return word::plus_product(m[0], z[0], m[1]);
     }
     let top = d - 1;
     let half = m.len() / 2;

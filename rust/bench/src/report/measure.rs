@@ -7,7 +7,10 @@ use tvarchula_bench::Buffers;
 /// How much is measured.
 #[derive(Clone, Copy, Debug)]
 pub struct Plan {
-    /// Samples of each side.
+    /// How often everything is measured anew. A machine that others use too is slower for seconds at
+    /// a time; rounds meet it in several states.
+    pub rounds: usize,
+    /// Samples of each side in a round.
     pub samples: usize,
     /// The least time of one sample, reached by repeating the call.
     pub least: Duration,
@@ -16,12 +19,14 @@ pub struct Plan {
 impl Plan {
     /// For numbers that are read.
     pub const FULL: Plan = Plan {
-        samples: 31,
+        rounds: 5,
+        samples: 11,
         least: Duration::from_millis(1),
     };
 
     /// To see that everything runs.
     pub const QUICK: Plan = Plan {
+        rounds: 1,
         samples: 3,
         least: Duration::ZERO,
     };
@@ -30,36 +35,37 @@ impl Plan {
 /// One side's work, given the buffers that it may write.
 pub type Side<'a> = &'a dyn Fn(&mut Buffers);
 
-/// What the samples of N sides say.
-#[derive(Clone, Copy, Debug)]
-pub struct Measured<const N: usize> {
-    /// The median time of one call of each side, in nanoseconds.
-    pub medians: [f64; N],
-    /// How far the quartiles of a side are apart, as a part of its median, at the worst side.
-    pub spread: f64,
-}
+/// The times of N sides in nanoseconds, a sample each, taken one right after the other.
+pub type Samples<const N: usize> = Vec<[f64; N]>;
 
-/// Measures the sides. In each sample another one goes first.
+/// Samples of one round. In each sample another side goes first.
 pub fn measure<const N: usize>(
     plan: Plan,
     buffers: &mut Buffers,
     sides: [Side<'_>; N],
-) -> Measured<N> {
+) -> Samples<N> {
     let repeats = repeats(plan.least, fastest(buffers, &sides));
-    let mut times = [const { Vec::new() }; N];
-    for sample in 0..plan.samples {
+    let sample = |sample: usize| {
+        let mut times = [0.0; N];
         for turn in 0..N {
             let side = (sample + turn) % N;
             let taken = time(repeats, buffers, sides[side]);
-            times[side].push(taken.as_nanos() as f64 / f64::from(repeats));
+            times[side] = taken.as_nanos() as f64 / f64::from(repeats);
         }
-    }
-    let quartiles = times.map(quartiles);
-    let spreads = quartiles.map(|[lower, median, upper]| (upper - lower) / median);
-    Measured {
-        medians: quartiles.map(|[_, median, _]| median),
-        spread: spreads.into_iter().fold(0.0, f64::max),
-    }
+        times
+    };
+    (0..plan.samples).map(sample).collect()
+}
+
+/// The median time of a side.
+pub fn median<const N: usize>(samples: &Samples<N>, side: usize) -> f64 {
+    quartiles(samples.iter().map(|times| times[side]))[1]
+}
+
+/// The first side's time by another's, in each sample: the quartiles. A sample's sides meet the
+/// machine in the same state, so that the ratio tells more than that of two medians.
+pub fn ratios<const N: usize>(samples: &Samples<N>, other: usize) -> [f64; 3] {
+    quartiles(samples.iter().map(|times| times[0] / times[other]))
 }
 
 /// A call of the fastest side. The first calls are slower than those that follow.
@@ -85,7 +91,8 @@ fn time(repeats: u32, buffers: &mut Buffers, side: Side<'_>) -> Duration {
     start.elapsed()
 }
 
-fn quartiles(mut times: Vec<f64>) -> [f64; 3] {
-    times.sort_by(f64::total_cmp);
-    [1, 2, 3].map(|quarter| times[times.len() * quarter / 4])
+fn quartiles(values: impl Iterator<Item = f64>) -> [f64; 3] {
+    let mut values: Vec<f64> = values.collect();
+    values.sort_by(f64::total_cmp);
+    [1, 2, 3].map(|quarter| values[values.len() * quarter / 4])
 }

@@ -6,7 +6,8 @@ mod scan;
 mod table;
 mod times;
 
-use measure::Plan;
+use measure::{median, ratios, Plan};
+use scan::Scans;
 use table::Table;
 use times::{Case, Times, CASES, FOLD_CHAINS};
 use tvarchula_bench::{Buffers, Inputs, Sizes};
@@ -18,8 +19,7 @@ const RATE: usize = 8;
 const TIMES: &str = "\
 One call of each job, `plain %` with the remainder of a division where `plain` uses that the modulus is a
 Mersenne prime. `fold` inverts in one chain of products in plain Rust, `fold, chains` in sixteen as the library does.
-`spread` is the distance between the quartiles of a side by its median, at the worst side: where it is large the
-machine was busy, and the ratios are rough.";
+Times are medians. A ratio is the median of the samples' ratios, with its quartiles.";
 const GROWTH: &str = "\
 Nanoseconds for each word of the block; for tables and evaluation, of the message. Encoding, decoding,
 writing and the tables make one pass for each level, so that theirs grow with the depth.";
@@ -29,21 +29,37 @@ const MEMORY: &str = "Bytes of the slices lent to one call. The library allocate
 pub fn print(plan: Plan, depths: &[usize]) {
     let draw = |&depth: &usize| Inputs::drawn(Sizes { depth, rate: RATE }, 0);
     let mut lent: Vec<Inputs> = depths.iter().map(draw).collect();
-    let times = CASES.map(|case| at_all_depths(plan, &case, &mut lent));
+    let mut times = CASES.map(|_| vec![Times::new(); depths.len()]);
+    let mut scans = vec![Scans::new(); depths.len()];
+    for _ in 0..plan.rounds {
+        for (case, times) in CASES.iter().zip(&mut times) {
+            add_times(plan, case, &mut lent, times);
+        }
+        scan::add(plan, &lent, &mut scans);
+    }
     println!("# The library and plain Rust at rate {RATE}\n");
-    println!("{} Medians of {} samples.\n", machine::line(), plan.samples);
+    let samples = plan.rounds * plan.samples;
+    println!(
+        "{} {samples} samples in {} rounds.\n",
+        machine::line(),
+        plan.rounds
+    );
     println!("## Times\n\n{TIMES}\n\n{}", compared(&lent, &times));
     println!("## Growth\n\n{GROWTH}\n\n{}", growth(&lent, &times));
-    println!("## Scan\n\n{}\n\n{}", scan::ABOUT, scan::table(plan, &lent));
+    println!(
+        "## Scan\n\n{}\n\n{}",
+        scan::ABOUT,
+        scan::table(&lent, &scans)
+    );
     print!("## Lent memory\n\n{MEMORY}\n\n{}", memory(&mut lent));
 }
 
-fn at_all_depths(plan: Plan, case: &Case, lent: &mut [Inputs]) -> Vec<Times> {
-    let measured = lent.iter_mut().map(|inputs| {
+/// One round of a case at all depths.
+fn add_times(plan: Plan, case: &Case, lent: &mut [Inputs], times: &mut [Times]) {
+    for (inputs, times) in lent.iter_mut().zip(times) {
         inputs.draw_queries(case.queries);
-        times::of_case(plan, case, inputs)
-    });
-    measured.collect()
+        times.extend(times::of_case(plan, case, inputs));
+    }
 }
 
 /// Times, and ratios of times.
@@ -56,24 +72,27 @@ fn compared(lent: &[Inputs], times: &[Vec<Times>]) -> Table {
         "library / plain",
         "plain %, µs",
         "library / plain %",
-        "spread",
     ]);
     for (case, times) in CASES.iter().zip(times) {
         for (inputs, t) in lent.iter().zip(times) {
-            let by = |other: f64| [micros(other), format!("{:.2}", t.library / other)];
+            let by = |side: usize| [micros(median(t, side)), ratio(ratios(t, side))];
             let mut row = vec![case.name.to_owned(), inputs.depth.to_string()];
-            row.push(micros(t.library));
-            row.extend(by(t.plain));
+            row.push(micros(median(t, 0)));
+            row.extend(by(1));
             if case.adds_only() {
                 row.extend(["".to_owned(), "".to_owned()]);
             } else {
-                row.extend(by(t.remainder));
+                row.extend(by(2));
             }
-            row.push(format!("{:.0} %", 100.0 * t.spread));
             table.row(row);
         }
     }
     table
+}
+
+/// The median, and the quartiles in brackets.
+fn ratio([lower, median, upper]: [f64; 3]) -> String {
+    format!("{median:.2} ({lower:.2} to {upper:.2})")
 }
 
 fn micros(nanos: f64) -> String {
@@ -89,15 +108,15 @@ fn growth(lent: &[Inputs], times: &[Vec<Times>]) -> Table {
     let job = ["job".to_owned()].into_iter();
     let mut table = Table::new(job.chain(heads("library")).chain(heads("plain")));
     for (case, times) in CASES.iter().zip(times) {
-        let cells = |side: fn(&Times) -> f64| {
+        let cells = |side: usize| {
             let each = lent.iter().zip(times);
             each.map(move |(inputs, t)| {
                 let words = case.main_slice(inputs).len();
-                format!("{:.2}", side(t) / words as f64)
+                format!("{:.2}", median(t, side) / words as f64)
             })
         };
         let name = [case.name.to_owned()].into_iter();
-        table.row(name.chain(cells(|t| t.library)).chain(cells(|t| t.plain)));
+        table.row(name.chain(cells(0)).chain(cells(1)));
     }
     table
 }

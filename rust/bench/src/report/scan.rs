@@ -1,6 +1,7 @@
 //! The scan for words below p, by a call that does nothing else.
 
-use super::measure::{measure, Measured, Plan, Side};
+use super::measure::{measure, median, ratios, Plan, Samples, Side};
+use super::ratio;
 use super::table::Table;
 use std::hint::black_box;
 use tvarchula_bench::plain::P;
@@ -28,8 +29,18 @@ fn read(inputs: &Inputs) -> u32 {
     slices.into_iter().map(sum).fold(0, u32::wrapping_add)
 }
 
+/// The sides: the library, plain Rust, and the sum alone.
+pub type Scans = Samples<3>;
+
+/// One round at all depths.
+pub fn add(plan: Plan, lent: &[Inputs], scans: &mut [Scans]) {
+    for (inputs, scans) in lent.iter().map(refused).zip(scans) {
+        scans.extend(scanned(plan, &inputs));
+    }
+}
+
 /// The scans at all depths.
-pub fn table(plan: Plan, lent: &[Inputs]) -> Table {
+pub fn table(lent: &[Inputs], scans: &[Scans]) -> Table {
     let mut table = Table::new([
         "depth",
         "bytes",
@@ -39,19 +50,18 @@ pub fn table(plan: Plan, lent: &[Inputs]) -> Table {
         "library / plain",
         "library / sum",
     ]);
-    for inputs in lent.iter().map(refused) {
+    for (inputs, scans) in lent.iter().map(refused).zip(scans) {
         let bytes = inputs.bytes(Job::Verify);
-        let [library, plain, sum] = scans(plan, &inputs).medians;
+        let speed = |side: usize| format!("{:.1}", bytes as f64 / median(scans, side));
         let mut row = vec![inputs.depth.to_string(), bytes.to_string()];
-        row.extend([library, plain, sum].map(|time| format!("{:.1}", bytes as f64 / time)));
-        row.extend([plain, sum].map(|other| format!("{:.2}", library / other)));
+        row.extend([0, 1, 2].map(speed));
+        row.extend([1, 2].map(|other| ratio(ratios(scans, other))));
         table.row(row);
     }
     table
 }
 
-/// Library, plain Rust, and the sum alone.
-fn scans(plan: Plan, inputs: &Inputs) -> Measured<3> {
+fn scanned(plan: Plan, inputs: &Inputs) -> Scans {
     let library: Side<'_> = &|buffers: &mut Buffers| {
         let answer = call::<Library>(Job::Verify, black_box(inputs), buffers);
         assert_eq!(answer.number, 4);

@@ -1,6 +1,6 @@
 //! The times of all jobs.
 
-use super::measure::{measure, Plan, Side};
+use super::measure::{measure, Plan, Samples, Side};
 use std::hint::black_box;
 use tvarchula_bench::plain::{Mersenne, OneChain, Remainder, SixteenChains};
 use tvarchula_bench::{call, Buffers, Call, Inputs, Job, Library, Plain};
@@ -69,18 +69,8 @@ impl Case {
     }
 }
 
-/// The times of one call, in nanoseconds.
-#[derive(Clone, Copy, Debug)]
-pub struct Times {
-    /// The library's.
-    pub library: f64,
-    /// Plain Rust's.
-    pub plain: f64,
-    /// Plain Rust's with `%`.
-    pub remainder: f64,
-    /// How far the quartiles of a side are apart, as a part of its median, at the worst side.
-    pub spread: f64,
-}
+/// The sides of a case: the library, plain Rust, plain Rust with `%`.
+pub type Times = Samples<3>;
 
 /// Measures a case on inputs that have its number of queries.
 pub fn of_case(plan: Plan, case: &Case, inputs: &Inputs) -> Times {
@@ -95,14 +85,7 @@ pub fn of_case(plan: Plan, case: &Case, inputs: &Inputs) -> Times {
         }
     });
     let sides = sides.each_ref().map(|side| side as Side<'_>);
-    let measured = measure(plan, &mut buffers, sides);
-    let [library, plain, remainder] = measured.medians;
-    Times {
-        library,
-        plain,
-        remainder,
-        spread: measured.spread,
-    }
+    measure(plan, &mut buffers, sides)
 }
 
 /// Stops the program where a side refuses or writes other words than the library.
