@@ -26,7 +26,8 @@ use Rattle.multilinear.specs.Rounds.{h}
 use Rattle.residue.specs.Residues.{F, K, Element, el, word, _⊠_}
 use Rattle.residue.specs.Scans.{is-low}
 use Rattle.open.specs.Laws.{length-opening, h-left}
-use Rattle.open.specs.Steps.{alike, values, roundOf, put, leftOf, sentWords, blockWords, Running, Ran}
+use Rattle.algebra.specs.Lists.{put}
+use Rattle.open.specs.Steps.{alike, values, roundOf, leftOf, sentWords, blockWords, Running, Ran}
 use Rattle.open.specs.Writing.{openingWords, Writes}
 use Rattle.open.proofs.Places.{block-end, block-within}
 use Rattle.open.proofs.Takes.{length-leftOf, front-is}

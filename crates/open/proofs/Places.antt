@@ -17,7 +17,8 @@ use Rattle.code.specs.Lent.{lent, Coding, diagonals-mono}
 use Rattle.foldable.specs.Encode.{length-encode}
 use Rattle.job.specs.Limits.{deepest, widest, blockSize, diagonalsSize, power-most, product-most}
 use Rattle.residue.specs.Residues.{F, el}
-use Rattle.open.specs.Steps.{values, roundOf, put, Sending, Giving, sentWords, Placing, Blocking, blockWords}
+use Rattle.algebra.specs.Lists.{put}
+use Rattle.open.specs.Steps.{values, roundOf, Sending, Giving, sentWords, Placing, Blocking, blockWords}
 use Rattle.open.proofs.Puts.{put-mid}
 
 -- a block ends where the next one begins, within the opening

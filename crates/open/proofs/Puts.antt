@@ -8,7 +8,7 @@ use lib.ListN.{length, take, drop, getD, length-append, length-take, length-drop
 use lib.Seq.{drop-drop, getD-take, getD-drop, getD-append-add}
 use borrow.Rule.Slice.PartMut.{putMid}
 use Rattle.algebra.specs.Order.{lt-or-ge}
-use Rattle.open.specs.Steps.{put}
+use Rattle.algebra.specs.Lists.{put}
 
 -- a part that was lent is back as ys
 pub put-mid : (a k : ℕ) (o xs ys : List ℕ) → xs ≡ ys → length ys ≡ k → putMid a k o xs ≡ put a ys o

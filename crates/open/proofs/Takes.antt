@@ -13,7 +13,8 @@ use Rattle.algebra.specs.WordLists.{low-words, elements, toWords, elements-word
 use Rattle.basefold.specs.Layout.{roundAt, blockAt}
 use Rattle.multilinear.specs.Folding.{foldMessage}
 use Rattle.residue.specs.Residues.{K, el}
-use Rattle.open.specs.Steps.{put, sentWords, Folding, folding, Above, Taking, Taken, leftOf, Blocking, blockWords, Running, Ran}
+use Rattle.algebra.specs.Lists.{put}
+use Rattle.open.specs.Steps.{sentWords, Folding, folding, Above, Taking, Taken, leftOf, Blocking, blockWords, Running, Ran}
 
 -- what is folded
 module _ (i w : ℕ) (z r s : List ℕ) (𝓣 : Taking i w z r s) (n : ℕ) (p : n ≡ 2 ^ (i + 1)) where

@@ -5,6 +5,7 @@ use Prim.Native.Nat.{ℕ, suc, _+_, _-_, _/_, _^_, _<_, _≤_}
 use lib.ListN.{length, take, drop, getD}
 use Rattle.algebra.specs.Numerals.{num}
 use Rattle.algebra.specs.Words.{𝔽₁}
+use Rattle.algebra.specs.Lists.{put}
 use Rattle.algebra.specs.WordLists.{Low, elements, toWords}
 use Rattle.basefold.specs.Layout.{roundAt, finalAt, blockAt, openingSize}
 use Rattle.foldable.specs.Code.{encode}
@@ -27,10 +28,6 @@ values f = f (num K 0) ∷ f (num K 1) ∷ f (num K 2) ∷ []
 -- the weight w times h of what is left, M, in the variables of y: no challenge is put into M's own variables yet
 abbrev pub roundOf : Element → List Element → List Element → Element → Element
 roundOf w M y X = w ⊠ h K 0 M y [] (length y) X
-
--- xs in the place of the words from k on
-abbrev pub put : ℕ → List ℕ → List ℕ → List ℕ
-put k xs o = take k o ++ (xs ++ drop (k + length xs) o)
 
 -- a message that has a top variable
 pub record Ending (z m : List ℕ) : Type 0 where
