@@ -40,13 +40,7 @@ pub fn lengths_ok(depth: u32, rate: u32, g: usize, t: usize, t2: usize) -> bool
 pub fn words_ok(g: &[u32], t: &[u32], t2: &[u32]) -> bool
     ensures { λ r. ⌜ r ≡ rowWords (now (g .entry)) (now (t .entry)) (now (t2 .entry)) ⌝ }
 {
-    if !scan::all_below(g) {
-        return false;
-    }
-    if !scan::all_below(t) {
-        return false;
-    }
-    scan::all_below(t2)
+    scan::three_below(g, t, t2)
 }
 
 // And of a message or a block.

@@ -1,6 +1,6 @@
 -- From the job's tests to the outcome that is due, and from an outcome without refusal to what holds of the input. Assumes nothing.
 use mathlib.Core.Path.{_≡_, sym, ap, _∙_}
-use mathlib.Core.Bool.{true, false}
+use mathlib.Core.Bool.{true, false, _&&_}
 use mathlib.Core.List.{List}
 use Prim.Native.Nat.{ℕ, suc, _+_, _*_, _-_, _^_, _<_, _≤_}
 use native.Mathlib.Omega.{arith}
@@ -92,9 +92,9 @@ module _ (level rate : ℕ) (t t2 block : List ℕ) (a out : ℕ) where
       let words-pass = require-done (wordsOk t t2 block a) 4 (lengths-pass .1) in
       let differ = held (allDiffer t t2) 6 (words-pass .1) in
       let l = lengths level rate _ _ _ _ (lengths-pass .0) in
-      let first = and-both (allBelow t) _ (words-pass .0) in
+      let words = and-both (allBelow t && (allBelow t2 && allBelow block)) _ (words-pass .0) in
+      let first = and-both (allBelow t) _ (words .0) in
       let second = and-both (allBelow t2) _ (first .1) in
-      let third = and-both (allBelow block) _ (second .1) in
       let n = l .result in
       record {
         diagonals = record {
@@ -105,8 +105,8 @@ module _ (level rate : ℕ) (t t2 block : List ℕ) (a out : ℕ) where
           differ = λ k h. all-differ t t2 differ k (omega (arith, l .first)) (omega (arith, l .second));
         };
         whole = l .whole ∙ twice rate level (level-bounds level (level-passes .0) .0) ∙ ap (λ m. m + m) (sym n);
-        low = all-below block (third .0);
-        challenge = ltb-true a P (third .1);
+        low = all-below block (second .1);
+        challenge = ltb-true a P (words .1);
         size = n;
       }
 

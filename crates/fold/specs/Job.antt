@@ -27,7 +27,7 @@ lengthsOk level rate t t2 block out =
     && eqb out (blockSize rate (level - 1))))
 
 unfoldable pub wordsOk : List ℕ → List ℕ → List ℕ → ℕ → Bool
-wordsOk t t2 block a = allBelow t && (allBelow t2 && (allBelow block && ltb a P))
+wordsOk t t2 block a = (allBelow t && (allBelow t2 && allBelow block)) && ltb a P
 
 -- the outcome that is due
 unfoldable pub judgeFolding : ℕ → ℕ → List ℕ → List ℕ → List ℕ → ℕ → ℕ → Outcome (Unit {0})

@@ -47,13 +47,7 @@ fn lengths_ok(level: u32, rate: u32, t: usize, t2: usize, block: usize, out: usi
 fn words_ok(t: &[u32], t2: &[u32], block: &[u32], challenge: u32) -> bool
     ensures { λ r. ⌜ r ≡ wordsOk (now (t .entry)) (now (t2 .entry)) (now (block .entry)) challenge ⌝ }
 {
-    if !residue::scan::all_below(t) {
-        return false;
-    }
-    if !residue::scan::all_below(t2) {
-        return false;
-    }
-    if !residue::scan::all_below(block) {
+    if !residue::scan::three_below(t, t2, block) {
         return false;
     }
     challenge < Residue::MODULUS

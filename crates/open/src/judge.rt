@@ -60,25 +60,13 @@ fn lengths_ok(
     buffers_ok(depth, rate, o, s)
 }
 
-fn inputs_low(m: &[u32], z: &[u32], r: &[u32]) -> bool
-    ensures { λ b. ⌜ b ≡ inputWords (now (m .entry)) (now (z .entry)) (now (r .entry)) ⌝ }
-{
-    if !scan::all_below(m) {
-        return false;
-    }
-    if !scan::all_below(z) {
-        return false;
-    }
-    scan::all_below(r)
-}
-
 fn words_ok(g: &[u32], t: &[u32], t2: &[u32], m: &[u32], z: &[u32], r: &[u32]) -> bool
     ensures { λ b. ⌜ b ≡ (rowWords (now (g .entry)) (now (t .entry)) (now (t2 .entry)) && inputWords (now (m .entry)) (now (z .entry)) (now (r .entry))) ⌝ }
 {
     if !parameters::words_ok(g, t, t2) {
         return false;
     }
-    inputs_low(m, z, r)
+    scan::three_below(m, z, r)
 }
 
 pub fn judge(

@@ -1,12 +1,11 @@
 -- Which lengths a table may have, and the depth of one. Assumes nothing.
-use mathlib.Core.Path.{_≡_, refl, sym, ap, _∙_}
+use mathlib.Core.Path.{_≡_, refl, ap, _∙_}
 use mathlib.Core.Bool.{Bool, true, false, _||_, cond}
 use Prim.Native.Nat.{ℕ, zero, suc, _^_, _<_, _≤_}
 use native.Mathlib.Nat.{le-refl}
 use native.Mathlib.Decide.{decLt}
 use native.Mathlib.Omega.{arith}
 use lib.Dec.{eqb}
-use lib.Pow.{pow-lt}
 use borrow.Author.Tests.{eqb-true, eq-eqb}
 use Rattle.job.specs.Limits.{deepest}
 
@@ -61,14 +60,3 @@ power-is (suc k) d h = go (power-is k d) (decLt d (suc k))
     go : (d ≤ k → isPowerTo k (2 ^ d) ≡ true) → Dec (d < suc k) → isPowerTo (suc k) (2 ^ d) ≡ true
     go rest (yes l) = ap (λ b. eqb (2 ^ d) (2 ^ suc k) || b) (rest (omega arith)) ∙ or-true (eqb (2 ^ d) (2 ^ suc k))
     go rest (no l) = let z : d ≡ suc k = omega arith in ap (λ b. b || isPowerTo k (2 ^ d)) (eq-eqb (2 ^ d) (2 ^ suc k) (ap (λ n. 2 ^ n) z))
-
-same-exponent : (a b : ℕ) → 2 ^ a ≡ 2 ^ b → a ≡ b
-same-exponent a b e = go (decLt a b) (decLt b a)
-  where
-    go : Dec (a < b) → Dec (b < a) → a ≡ b
-    go (yes l) q = absurd (omega (arith, pow-lt l))
-    go (no l) (yes r) = absurd (omega (arith, pow-lt r))
-    go (no l) (no r) = omega arith
-
-pub exponent-power : (k d : ℕ) → d ≤ k → exponentTo k (2 ^ d) ≡ d
-exponent-power k d h = sym (same-exponent d (exponentTo k (2 ^ d)) (exponent-is k (2 ^ d) (power-is k d h)))

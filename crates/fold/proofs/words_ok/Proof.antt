@@ -1,43 +1,20 @@
 use Rattle.fold.specs.Job.{wordsOk}
-use Rattle.job.specs.Flags.{passes, fails}
+use Rattle.algebra.specs.Flags.{passes, fails}
 use mathlib.Core.Path.{sym}
 use borrow.Author.Needs.{needs}
 use Rattle.fold.proofs.words_ok.Statement.{statement}
 use Rattle.fold.proofs.words_ok.Tie as tie
 
-all-below-requires : tie.Need-all-below-requires
-all-below-requires c κs = search needs
+three-below-requires : tie.Need-three-below-requires
+three-below-requires c κs = search needs
 
 returns : tie.Need-returns
 unfolding wordsOk
-returns c = sym (rw (fails (c .before .all-below .ensures) (c .if1 .taken)))
-
-all-below-requires-2 : tie.Need-all-below-requires-2
-all-below-requires-2 c κs = search needs
+returns c = sym (rw (fails (c .before .three-below .ensures) (c .if1 .taken)))
 
 returns-2 : tie.Need-returns-2
 unfolding wordsOk
-returns-2 c = sym (rw (passes (c .before .before .before .all-below .ensures) (c .before .before .if1 .left), fails (c .before .all-below2 .ensures) (c .if2 .taken)))
-
-all-below-requires-3 : tie.Need-all-below-requires-3
-all-below-requires-3 c κs = search needs
-
-returns-3 : tie.Need-returns-3
-unfolding wordsOk
-returns-3 c = sym (rw (passes (c .before .before .before .before .before .all-below .ensures) (c .before .before .before .before .if1 .left), passes (c .before .before .before .all-below2 .ensures) (c .before .before .if2 .left), fails (c .before .all-below3 .ensures) (c .if3 .taken)))
-
-returns-4 : tie.Need-returns-4
-unfolding wordsOk
-returns-4 c = sym (rw (passes (c .before .before .before .before .before .all-below .ensures) (c .before .before .before .before .if1 .left), passes (c .before .before .before .all-below2 .ensures) (c .before .before .if2 .left), passes (c .before .all-below3 .ensures) (c .if3 .left)))
+returns-2 c = sym (rw (passes (c .before .three-below .ensures) (c .if1 .left)))
 
 pub words-ok-spec : {M : Type 1} → statement M
-words-ok-spec =
-    tie.close
-    (tie.spec
-    all-below-requires
-    returns
-    all-below-requires-2
-    returns-2
-    all-below-requires-3
-    returns-3
-    returns-4)
+words-ok-spec = tie.close (tie.spec three-below-requires returns returns-2)

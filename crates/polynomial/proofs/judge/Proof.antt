@@ -1,5 +1,5 @@
 use Rattle.job.specs.Outcome.{stop, pass, refuses, holds}
-use Rattle.job.specs.Flags.{passes, fails}
+use Rattle.algebra.specs.Flags.{passes, fails}
 use Rattle.polynomial.specs.Evaluation.{judgeEvaluating}
 use borrow.Author.Needs.{needs}
 use Rattle.polynomial.proofs.judge.Statement.{statement}

@@ -1,5 +1,5 @@
 use mathlib.Core.Path.{sym, _∙_}
-use Rattle.job.specs.Flags.{passes, fails}
+use Rattle.algebra.specs.Flags.{passes, fails}
 use borrow.Author.Needs.{needs}
 use Rattle.polynomial.proofs.words_ok.Statement.{statement}
 use Rattle.polynomial.proofs.words_ok.Tie as tie

@@ -2,7 +2,7 @@ use Rattle.job.specs.Outcome.{outcome, require, _⨾_, stop, pass, after-refuse
 use mathlib.Core.Path.{sym, ap, _∙_}
 use lib.ListN.{length}
 use Rattle.algebra.specs.Tests.{and-both}
-use Rattle.job.specs.Flags.{passes, fails}
+use Rattle.algebra.specs.Flags.{passes, fails}
 use Rattle.code.specs.Parameters.{limits, legalRow, within, row-lengths}
 use Rattle.decode.specs.Decoding.{decodeLengths, judgeDecoding}
 use borrow.Author.Needs.{needs}

@@ -1,6 +1,6 @@
 use mathlib.Core.Path.{sym}
 use borrow.Author.Tests.{eq-eqb, ne-eqb, leb-true}
-use Rattle.job.specs.Flags.{passes, fails}
+use Rattle.algebra.specs.Flags.{passes, fails}
 use Rattle.job.specs.Limits.{rate-most}
 use Rattle.decode.specs.Decoding.{decodeLengths}
 use borrow.Author.Needs.{needs}

@@ -1,5 +1,5 @@
 use mathlib.Core.Path.{_∙_}
-use Rattle.job.specs.Flags.{passes, fails}
+use Rattle.algebra.specs.Flags.{passes, fails}
 use Rattle.decode.proofs.Deciding.{found, not-found}
 use Rattle.decode.proofs.decode.settle.Statement.{statement}
 use Rattle.decode.proofs.decode.settle.Tie as tie

@@ -1,44 +1,18 @@
-use mathlib.Core.Path.{ap, ap₂, _∙_}
-use Rattle.residue.specs.Residues.{el, word, _⊟_, _⊠_}
+use mathlib.Core.Path.{ap, _∙_}
+use Rattle.residue.specs.Residues.{el, word, _⊟_}
 use Rattle.decode.proofs.Places.{word-low, word-el}
 use borrow.Author.Needs.{needs}
 use Rattle.decode.proofs.place.less.Statement.{statement}
 use Rattle.decode.proofs.place.less.Tie as tie
 
-new-requires : tie.Need-new-requires
-new-requires c κs = search needs
-
-new-requires-2 : tie.Need-new-requires-2
-new-requires-2 c κs = search needs
-
 times-requires : tie.Need-times-requires
 times-requires c κs = search needs
 
-new-requires-3 : tie.Need-new-requires-3
-new-requires-3 c κs = search needs
-
 minus-requires : tie.Need-minus-requires
-minus-requires c κs = (search needs, word-low _ (c .before .times .ensures))
-
-word-requires : tie.Need-word-requires
-word-requires c κs = search needs
+minus-requires c κs = (c .before .pre .0, word-low _ (c .times .ensures))
 
 returns : tie.Need-returns
-returns c =
-    let m = c .before in
-    let r = m .before in
-    let p = r .before in
-    c .word .ensures ∙ m .minus .ensures
-    ∙ ap₂ (λ x y. word (x ⊟ y)) (ap el (r .new3 .ensures)) (word-el _ (p .times .ensures) ∙ (λ i. el (p .before .before .new .ensures i) ⊠ el (p .before .new2 .ensures i)))
+returns c = c .minus .ensures ∙ ap (λ x. word (el (c .before .before .args .a) ⊟ x)) (word-el _ (c .before .times .ensures))
 
 pub less-spec : {M : Type 1} → statement M
-less-spec =
-    tie.close
-    (tie.spec
-    new-requires
-    new-requires-2
-    times-requires
-    new-requires-3
-    minus-requires
-    word-requires
-    returns)
+less-spec = tie.close (tie.spec times-requires minus-requires returns)

@@ -2,7 +2,7 @@
 use mathlib.Core.Path.{sym, ap, _∙_}
 use lib.ListN.{length}
 use Rattle.algebra.specs.Tests.{and-both}
-use Rattle.job.specs.Flags.{passes, fails}
+use Rattle.algebra.specs.Flags.{passes, fails}
 use Rattle.job.specs.Outcome.{outcome, require, _⨾_, stop, pass, after-refused, after-done}
 use Rattle.code.specs.Parameters.{legalRow, within, row-lengths}
 use Rattle.open.specs.Writing.{writeLengths, judgeWriting}

@@ -1,6 +1,6 @@
 -- `open::judge::lengths_ok` meets its contract. Assumes nothing.
 use mathlib.Core.Path.{sym}
-use Rattle.job.specs.Flags.{passes, fails}
+use Rattle.algebra.specs.Flags.{passes, fails}
 use Rattle.open.specs.Writing.{writeLengths}
 use borrow.Author.Needs.{needs}
 use Rattle.open.proofs.judge.lengths_ok.Statement.{statement}

@@ -1,6 +1,7 @@
 -- `open::judge::words_ok` meets its contract. Assumes nothing.
 use mathlib.Core.Path.{sym, _∙_}
-use Rattle.job.specs.Flags.{passes, fails}
+use Rattle.algebra.specs.Flags.{passes, fails}
+use Rattle.open.specs.Writing.{inputWords}
 use borrow.Author.Needs.{needs}
 use Rattle.open.proofs.judge.words_ok.Statement.{statement}
 use Rattle.open.proofs.judge.words_ok.Tie as tie
@@ -11,12 +12,13 @@ words-ok-requires c κs = search needs
 returns : tie.Need-returns
 returns c = sym (rw (fails (c .before .words-ok .ensures) (c .if1 .taken)))
 
-inputs-low-requires : tie.Need-inputs-low-requires
-inputs-low-requires c κs = search needs
+three-below-requires : tie.Need-three-below-requires
+three-below-requires c κs = search needs
 
 returns-2 : tie.Need-returns-2
-returns-2 c = c .inputs-low .ensures ∙ sym (rw (passes (c .before .before .words-ok .ensures) (c .before .if1 .left)))
+unfolding inputWords
+returns-2 c = c .three-below .ensures ∙ sym (rw (passes (c .before .before .words-ok .ensures) (c .before .if1 .left)))
 
 pub words-ok-spec : {M : Type 1} → statement M
 words-ok-spec =
-    tie.close (tie.spec words-ok-requires returns inputs-low-requires returns-2)
+    tie.close (tie.spec words-ok-requires returns three-below-requires returns-2)

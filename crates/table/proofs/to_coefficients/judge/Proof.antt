@@ -1,6 +1,6 @@
 -- Each return by the tests that led there. Assumes nothing.
 use borrow.Author.Needs.{needs}
-use Rattle.job.specs.Flags.{passes, fails}
+use Rattle.algebra.specs.Flags.{passes, fails}
 use Rattle.table.specs.Judged.{table-1, table-3, table-9, table-done}
 use Rattle.table.proofs.to_coefficients.judge.Statement.{statement}
 use Rattle.table.proofs.to_coefficients.judge.Tie as tie

@@ -1,6 +1,6 @@
 -- Each return by the tests that led there. Assumes nothing.
 use borrow.Author.Needs.{needs}
-use Rattle.job.specs.Flags.{passes, fails}
+use Rattle.algebra.specs.Flags.{passes, fails}
 use Rattle.table.specs.Judged.{message-1, message-3, message-3-work, message-4, message-done}
 use Rattle.table.proofs.to_table.judge.Statement.{statement}
 use Rattle.table.proofs.to_table.judge.Tie as tie

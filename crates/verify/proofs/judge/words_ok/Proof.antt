@@ -2,7 +2,7 @@ use native.Mathlib.Omega.{arith}
 use Rattle.residue.specs.Residues.{P}
 use mathlib.Core.Path.{sym, _∙_}
 use borrow.Author.Tests.{lt-ltb, le-ltb}
-use Rattle.job.specs.Flags.{passes, fails}
+use Rattle.algebra.specs.Flags.{passes, fails}
 use Rattle.verify.specs.Verifying.{openedWords}
 use borrow.Author.Needs.{needs}
 use Rattle.verify.proofs.judge.words_ok.Statement.{statement}
