@@ -12,7 +12,8 @@ use Rattle.algebra.specs.Words.{𝔽₁}
 use Rattle.algebra.specs.WordLists.{low-words, elements, toWords, elements-words, length-elements}
 use Rattle.foldable.specs.Code.{encode}
 use Rattle.foldable.specs.Lift.{lift, lift-spread}
-use Rattle.job.specs.Outcome.{done, require-done, both}
+use Rattle.job.specs.Outcome.{done}
+use Rattle.job.specs.OutcomeLaws.{require-done, both}
 use Rattle.job.specs.Limits.{blockSize}
 use Rattle.residue.specs.Residues.{F}
 use Rattle.residue.specs.Scans.{allBelow, all-below}

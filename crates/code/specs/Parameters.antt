@@ -8,7 +8,8 @@ use lib.ListN.{length}
 use borrow.Author.Tests.{eqb-true}
 use Rattle.algebra.specs.Tests.{and-both}
 use Rattle.algebra.specs.WordLists.{Low}
-use Rattle.job.specs.Outcome.{Outcome, done, require, _⨾_, require-done, held}
+use Rattle.job.specs.Outcome.{Outcome, done, require, _⨾_}
+use Rattle.job.specs.OutcomeLaws.{require-done, held}
 use Rattle.job.specs.Limits.{depthOk, rateOk, diagonalsSize}
 use Rattle.residue.specs.Residues.{P}
 use Rattle.residue.specs.Scans.{allBelow, noneZero, allDiffer, all-below}

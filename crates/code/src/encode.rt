@@ -35,7 +35,7 @@ fn lengths_ok(depth: u32, rate: u32, g: usize, t: usize, t2: usize, m: usize, ou
     if m != job::message_len(depth) {
         return false;
     }
-    out == job::block_len(rate, depth)
+    out == job::block_len(depth, rate)
 }
 
 fn judge(depth: u32, rate: u32, g: &[u32], t: &[u32], t2: &[u32], m: &[u32], out: usize) -> Answer

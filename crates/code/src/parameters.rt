@@ -27,7 +27,7 @@ pub fn lengths_ok(depth: u32, rate: u32, g: usize, t: usize, t2: usize) -> bool
     requires { ⌜ (depthOk depth ≡ true) × (rateOk rate ≡ true) ⌝ }
     ensures { λ r. ⌜ r ≡ rowLengths depth rate g t t2 ⌝ }
 {
-    let n = job::diagonals_len(rate, depth);
+    let n = job::diagonals_len(depth, rate);
     if g != rate as usize {
         return false;
     }

@@ -12,7 +12,8 @@ use Rattle.algebra.specs.Algebra.{algebra, quote, from₁}
 use Rattle.algebra.specs.Lists.{length-row}
 use Rattle.algebra.specs.Words.{𝔽₁}
 use Rattle.foldable.specs.Columns.{pick}
-use Rattle.job.specs.Limits.{power-most, diagonalsSize}
+use Rattle.job.specs.LimitLaws.{power-most}
+use Rattle.job.specs.Limits.{diagonalsSize, maxMessage}
 use Rattle.residue.specs.Residues.{P, K, Element, el, word, _⊟_}
 use Rattle.decode.specs.Steps.{gap, Gaps, inverted, Decodes}
 use Rattle.decode.proofs.Strides.{within}
@@ -30,7 +31,7 @@ module _ (d : ℕ) (g t t' b work : List ℕ) (𝓓 : Decodes d g t t' b (length
   pub some : 1 ≤ n
   some = omega (arith, pow-pos d)
 
-  pub few : n ≤ 65536
+  pub few : n ≤ maxMessage
   few = omega (arith, power-most d (𝓓 .depth))
 
   -- a column and its inverses have room in the work buffer

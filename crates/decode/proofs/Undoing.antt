@@ -18,7 +18,8 @@ use Rattle.foldable.specs.Code.{Code}
 use Rattle.foldable.specs.Decode.{undo}
 use Rattle.foldable.specs.Encode.{below}
 use Rattle.foldable.specs.Level.{lines, slopes}
-use Rattle.job.specs.Limits.{widest, deepest, diagonalsSize, power-most, product-most}
+use Rattle.job.specs.Limits.{maxRate, maxDepth, diagonalsSize, maxBlock}
+use Rattle.job.specs.LimitLaws.{power-most, product-most}
 use Rattle.residue.specs.Residues.{P, F, K, Element, el, word, inv, _⊟_, _⊠_}
 use Rattle.code.specs.Lent.{level-end, diagonals-mono}
 use Rattle.decode.specs.Steps.{Uncrossing, uncrossed, slopeAt, startAt, Halved, Undoing, Laid, Undone}
@@ -29,7 +30,7 @@ use Rattle.decode.proofs.Places.{word-low, low-row, getD-behind}
 infixr 71 _⊛_
 open Vectors (vectors K) using (_⊛_)
 
-pub halved : (d c r : ℕ) → 0 < d → d ≤ deepest → c ≤ widest → r ≡ 2 ^ (d - 1) → (1 ≤ r) × (c * (r - 1) ≤ 1048576) × Halved d c r (r - 1) (c * (r - 1)) (d - 1)
+pub halved : (d c r : ℕ) → 0 < d → d ≤ maxDepth → c ≤ maxRate → r ≡ 2 ^ (d - 1) → (1 ≤ r) × (c * (r - 1) ≤ maxBlock) × Halved d c r (r - 1) (c * (r - 1)) (d - 1)
 halved d c r lo hi wide e =
     let p : 1 ≤ r = omega (arith, pow-pos (d - 1)) in
     (p, product-most c (r - 1) wide (omega (arith, power-most (d - 1) (omega arith))), record { low-is = omega arith; half-is = e; skip-is = omega arith; off-is = ap (λ n. c * (n - 1)) e })

@@ -16,12 +16,11 @@ use Rattle.algebra.specs.WordLaws.{el-apart}
 use Rattle.algebra.specs.WordLists.{Low, elements, toWords, length-elements, words-elements}
 use Rattle.foldable.specs.Code.{encode, Codeword}
 use Rattle.foldable.specs.Decode.{Decoder, rowDecoder, unique-decoded}
-use Rattle.job.specs.declared.Refusal.{Refusal}
-use Rattle.job.specs.declared.Refusal.the-variants.{Depth, Rate, Length, Word, BaseRow, Diagonals, Queries, NoCodeword, Clearance}
 use Rattle.job.specs.declared.Answer.{Answer}
-use Rattle.job.specs.declared.Answer.the-variants.{Done, Refused}
-use Rattle.job.specs.Outcome.{Outcome, refused, done, outcome, require, _⨾_, require-done, held, both}
-use Rattle.job.specs.Limits.{deepest, depthOk, rateOk, blockSize, diagonalsSize, rate-least, rate-most}
+use Rattle.job.specs.Outcome.{Outcome, refused, done, outcome, require, _⨾_}
+use Rattle.job.specs.OutcomeLaws.{require-done, held, both, same-answer}
+use Rattle.job.specs.Limits.{maxDepth, depthOk, rateOk, blockSize, diagonalsSize}
+use Rattle.job.specs.LimitLaws.{rate-least, rate-most}
 use Rattle.residue.specs.Residues.{P, F, K, el, inv}
 use Rattle.residue.specs.Scans.{allBelow, noneZero, allDiffer, all-below, none-zero, all-differ}
 use Rattle.code.specs.Lent.{lent}
@@ -69,7 +68,7 @@ decodes d c g t t' b m k e =
     let z : getD g 0 0 ≡ 0 → ⊥ = none-zero g (x .0) 0 (omega arith) in (
       record {
         coding = lent-coding d c g t t' (l .0) (v .0) (u .1);
-        depth = leb-true d deepest (w .0);
+        depth = leb-true d maxDepth (w .0);
         narrow = lo;
         wide = rw (r .row) (rate-most c (w .1));
         first = r .first ∙ ap (λ a. diagonalsSize a d) (sym (r .row));
@@ -88,38 +87,6 @@ pub decoder : (g : List ℕ) (t t' : List ℕ) → Low P g → 0 < length g → 
 unfolding elements
 decoder [] t t' l h n = absurd (omega arith)
 decoder (x ∷ g) t t' l h n = rowDecoder F (el x) (elements 𝔽₁ g) _ _ (el-apart P K (𝔽₁ .words) x n (l .low 0 h))
-
--- an answer is determined by its outcome
-abbrev ofNumber : ℕ → Refusal
-ofNumber zero = Depth
-ofNumber (suc zero) = Depth
-ofNumber (suc (suc zero)) = Rate
-ofNumber (suc (suc (suc zero))) = Length
-ofNumber (suc (suc (suc (suc zero)))) = Word
-ofNumber (suc (suc (suc (suc (suc zero))))) = BaseRow
-ofNumber (suc (suc (suc (suc (suc (suc zero)))))) = Diagonals
-ofNumber (suc (suc (suc (suc (suc (suc (suc zero))))))) = Queries
-ofNumber (suc (suc (suc (suc (suc (suc (suc (suc zero)))))))) = NoCodeword
-ofNumber (suc (suc (suc (suc (suc (suc (suc (suc (suc n))))))))) = Clearance
-
-abbrev ofOutcome : Outcome (Unit {0}) → Answer
-ofOutcome (refused n) = Refused (ofNumber n)
-ofOutcome (done a) = Done
-
-of-outcome : (r : Answer) → ofOutcome (outcome r) ≡ r
-of-outcome Done = refl
-of-outcome (Refused Depth) = refl
-of-outcome (Refused Rate) = refl
-of-outcome (Refused Length) = refl
-of-outcome (Refused Word) = refl
-of-outcome (Refused BaseRow) = refl
-of-outcome (Refused Diagonals) = refl
-of-outcome (Refused Queries) = refl
-of-outcome (Refused NoCodeword) = refl
-of-outcome (Refused Clearance) = refl
-
-pub same-answer : (r r' : Answer) → outcome r ≡ outcome r' → r ≡ r'
-same-answer r r' e = sym (of-outcome r) ∙ ap ofOutcome e ∙ of-outcome r'
 
 module _ (d : ℕ) (g t t' b : List ℕ) (k : ℕ) (𝓓 : Decodes d g t t' b k) where
   -- words whose codeword the block is

@@ -12,7 +12,7 @@ use Rattle.algebra.specs.Words.{𝔽₁}
 use Rattle.algebra.specs.WordLists.{Low, elements, toWords}
 use Rattle.foldable.specs.Code.{Code, Legal}
 use Rattle.foldable.specs.Decode.{undo, decode}
-use Rattle.job.specs.Limits.{deepest, widest, blockSize, diagonalsSize}
+use Rattle.job.specs.Limits.{maxDepth, maxRate, blockSize, diagonalsSize}
 use Rattle.residue.specs.Residues.{P, F, K, Element, el, word, inv, _⊟_, _⊠_}
 use Rattle.code.specs.Lent.{lent, Coding}
 
@@ -75,9 +75,9 @@ pub record Halved (d c half skip off low : ℕ) : Type 0 where
 
 -- a column of level d in front of w, and inverses from a on
 pub record Undoing (d a x c : ℕ) (t w : List ℕ) : Type 0 where
-  pub depth : d ≤ deepest
+  pub depth : d ≤ maxDepth
   pub some : 0 < c
-  pub wide : c ≤ widest
+  pub wide : c ≤ maxRate
   pub unit : x < P
   pub behind : 2 ^ d ≤ a
   pub within : a + (2 ^ d - 1) ≤ length w
@@ -101,9 +101,9 @@ pub record Undone (d a x c : ℕ) (t w out : List ℕ) : Type 0 where
 -- what the work is lent: exact lengths, words below the modulus, a legal row and diagonals; k is the length of the work buffer
 pub record Decodes (d : ℕ) (g t t' b : List ℕ) (k : ℕ) : Type 0 where
   pub coding : Coding d g t t'
-  pub depth : d ≤ deepest
+  pub depth : d ≤ maxDepth
   pub narrow : 2 ≤ length g
-  pub wide : length g ≤ widest
+  pub wide : length g ≤ maxRate
   pub first : length t ≡ diagonalsSize (length g) d
   pub second : length t' ≡ diagonalsSize (length g) d
   pub unit : 0 < getD g 0 0
@@ -126,7 +126,7 @@ pub record Spreading (n : ℕ) (g w : List ℕ) : Type 0 where
 -- a message of depth d in front of a block
 pub record Again (d : ℕ) (g t t' w : List ℕ) : Type 0 where
   pub coding : Coding d g t t'
-  pub depth : d ≤ deepest
+  pub depth : d ≤ maxDepth
   pub some : 0 < length g
   pub message : Low P (take (2 ^ d) w)
   pub size : length w ≡ blockSize (length g) d

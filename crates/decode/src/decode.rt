@@ -88,7 +88,7 @@ fn lengths_ok(
     requires { ⌜ (depthOk depth ≡ true) × (rateOk rate ≡ true) ⌝ }
     ensures { λ r. ⌜ r ≡ decodeLengths depth rate g t t2 block out work ⌝ }
 {
-    let n = job::block_len(rate, depth);
+    let n = job::block_len(depth, rate);
     if !parameters::lengths_ok(depth, rate, g, t, t2) {
         return false;
     }

@@ -3,14 +3,14 @@ ghost use mathlib.Core.Path.{_≡_};
 ghost use Prim.Native.Nat.{_<_};
 ghost use Rattle.residue.specs.Residues.{P, el, word, inv, _⊟_, _⊠_};
 use residue::Residue;
-use residue::word;
+use residue::entry;
 
 // a (y - x)
 pub fn stretch(a: u32, x: u32, y: u32) -> u32
     requires { ⌜ (a < P) × (x < P) × (y < P) ⌝ }
     ensures { λ w. ⌜ w ≡ word (el a ⊠ (el y ⊟ el x)) ⌝ }
 {
-    word::times(a, word::minus(y, x))
+    entry::times(a, entry::minus(y, x))
 }
 
 // a - b c
@@ -18,7 +18,7 @@ pub fn less(a: u32, b: u32, c: u32) -> u32
     requires { ⌜ (a < P) × (b < P) × (c < P) ⌝ }
     ensures { λ w. ⌜ w ≡ word (el a ⊟ el b ⊠ el c) ⌝ }
 {
-    word::minus(a, word::times(b, c))
+    entry::minus(a, entry::times(b, c))
 }
 
 // 1 / a

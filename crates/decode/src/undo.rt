@@ -1,10 +1,10 @@
 // The levels of one column undone, in place. The inverses of the differences stand behind it in the same slice.
 ghost use mathlib.Core.Path.{_≡_};
 ghost use Prim.Native.Nat.{_<_, _≤_};
-ghost use Rattle.job.specs.Limits.{deepest, widest};
+ghost use Rattle.job.specs.Limits.{maxDepth, maxRate};
 ghost use Rattle.decode.specs.Steps.{Uncrossing, uncrossed, Halved, Undoing, Undone};
 use crate::place;
-use residue::word;
+use residue::entry;
 
 // At each place the line through the words u and v of the two halves: its value at 0 instead of u, its slope instead of v.
 fn uncross(n: usize, a: usize, c: usize, t: &[u32], w: &mut [u32])
@@ -34,7 +34,7 @@ pub struct Parts {
 }
 
 fn halved(depth: u32, c: usize) -> Parts
-    requires { ⌜ (0 < depth) × (depth ≤ deepest) × (c ≤ widest) ⌝ }
+    requires { ⌜ (0 < depth) × (depth ≤ maxDepth) × (c ≤ maxRate) ⌝ }
     ensures { λ r. ⌜ Halved depth c (r .half) (r .skip) (r .off) (r .low) ⌝ }
 {
     let low = depth - 1;
@@ -54,7 +54,7 @@ pub fn undo(depth: u32, a: usize, x: u32, c: usize, t: &[u32], w: &mut [u32])
     ensures { λ _. ⌜ Undone depth a x c (now (t .entry)) (now (w .entry)) (now (w .exit)) ⌝ }
 {
     if depth == 0 {
-        w[0] = word::times(x, w[0]);
+        w[0] = entry::times(x, w[0]);
         return;
     }
     let p = halved(depth, c);

@@ -10,8 +10,9 @@ use borrow.Author.Tests.{leb-true, ltb-true, eqb-true}
 use Rattle.algebra.specs.Tests.{and-both}
 use Rattle.algebra.specs.WordLists.{Low}
 use Rattle.foldable.specs.Encode.{double}
-use Rattle.job.specs.Limits.{deepest, rateOk, blockSize}
-use Rattle.job.specs.Outcome.{refused, done, require-done, held, outcome, kept}
+use Rattle.job.specs.Limits.{maxDepth, rateOk, blockSize}
+use Rattle.job.specs.Outcome.{refused, done, outcome, kept}
+use Rattle.job.specs.OutcomeLaws.{require-done, held}
 use Rattle.job.specs.declared.Refusal.{Refusal}
 use Rattle.job.specs.declared.Answer.the-variants.{Done, Refused}
 use Rattle.residue.specs.Residues.{P}
@@ -19,11 +20,11 @@ use Rattle.residue.specs.Scans.{allBelow, allDiffer, all-below, all-differ}
 use Rattle.fold.specs.Job.{levelOk, lengthsOk, wordsOk, judgeFolding, foldWords, Folded}
 use Rattle.fold.specs.Steps.{Diagonals}
 
-pub level-bounds : (level : ℕ) → levelOk level ≡ true → (1 ≤ level) × (level ≤ deepest)
+pub level-bounds : (level : ℕ) → levelOk level ≡ true → (1 ≤ level) × (level ≤ maxDepth)
 unfolding levelOk
 level-bounds level e =
-    let b = and-both (leb 1 level) (leb level deepest) e in
-    (leb-true 1 level (b .0), leb-true level deepest (b .1))
+    let b = and-both (leb 1 level) (leb level maxDepth) e in
+    (leb-true 1 level (b .0), leb-true level maxDepth (b .1))
 
 pub record Lengths (n m t t2 block out : ℕ) : Type 0 where
   pub first : t ≡ n

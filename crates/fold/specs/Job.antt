@@ -8,7 +8,7 @@ use lib.ListN.{length}
 use Rattle.algebra.specs.Words.{𝔽₁}
 use Rattle.algebra.specs.WordLists.{elements, toWords}
 use Rattle.foldable.specs.Code.{foldAlong}
-use Rattle.job.specs.Limits.{deepest, rateOk, blockSize}
+use Rattle.job.specs.Limits.{maxDepth, rateOk, blockSize}
 use Rattle.job.specs.Outcome.{Outcome, require, _⨾_, kept, outcome}
 use Rattle.job.specs.declared.Answer.{Answer}
 use Rattle.residue.specs.Residues.{P, F, el}
@@ -16,7 +16,7 @@ use Rattle.residue.specs.Scans.{allBelow, allDiffer}
 
 -- the upper level is 1 to 16
 unfoldable pub levelOk : ℕ → Bool
-levelOk level = leb 1 level && leb level deepest
+levelOk level = leb 1 level && leb level maxDepth
 
 -- the numbers of words lent: n_i for T_i, for T'_i and for the result, n_(i+1) for the block
 unfoldable pub lengthsOk : ℕ → ℕ → ℕ → ℕ → ℕ → ℕ → Bool

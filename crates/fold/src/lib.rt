@@ -3,7 +3,7 @@ ghost use mathlib.Core.Path.{_≡_};
 ghost use Prim.Native.Nat.{_+_, _<_, _≤_};
 ghost use lib.ListN.{length};
 ghost use Rattle.algebra.specs.WordLists.{Low};
-ghost use Rattle.job.specs.Limits.{deepest, widest};
+ghost use Rattle.job.specs.Limits.{maxDepth, maxRate};
 ghost use Rattle.job.specs.Outcome.{outcome};
 ghost use Rattle.residue.specs.Residues.{P};
 ghost use Rattle.fold.specs.Job.{levelOk, lengthsOk, wordsOk, judgeFolding, foldWords, Folded};
@@ -23,22 +23,22 @@ fn level_ok(level: u32) -> bool
     if level < 1 {
         return false;
     }
-    level <= job::DEEPEST
+    level <= job::MAX_DEPTH
 }
 
 // By the numbers of words lent.
 fn lengths_ok(level: u32, rate: u32, t: usize, t2: usize, block: usize, out: usize) -> bool
-    requires { ⌜ (1 ≤ level) × (level ≤ deepest) × (rate ≤ widest) ⌝ }
+    requires { ⌜ (1 ≤ level) × (level ≤ maxDepth) × (rate ≤ maxRate) ⌝ }
     ensures { λ r. ⌜ r ≡ lengthsOk level rate t t2 block out ⌝ }
 {
-    let n = job::block_len(rate, level - 1);
+    let n = job::block_len(level - 1, rate);
     if t != n {
         return false;
     }
     if t2 != n {
         return false;
     }
-    if block != job::block_len(rate, level) {
+    if block != job::block_len(level, rate) {
         return false;
     }
     out == n

@@ -7,14 +7,14 @@ ghost use Rattle.algebra.specs.Words.{𝔽₁};
 ghost use Rattle.algebra.specs.WordLists.{Low, toWords};
 ghost use Rattle.residue.specs.Residues.{P, el, word};
 ghost use Rattle.fold.specs.Steps.{through, throughAll};
-use residue::word;
+use residue::entry;
 
 // The value at a of the line through (t, u) and (t', v), where s is the inverse of t' - t.
 fn line(a: u32, t: u32, s: u32, u: u32, v: u32) -> u32
     requires { ⌜ (a < P) × (t < P) × (s < P) × (u < P) × (v < P) ⌝ }
     ensures { λ r. ⌜ r ≡ word (through (el a) (el t) (el s) (el u) (el v)) ⌝ }
 {
-    word::plus_product(u, word::minus(a, t), word::times(s, word::minus(v, u)))
+    entry::plus_product(u, entry::minus(a, t), entry::times(s, entry::minus(v, u)))
 }
 
 // Each inverse in out gives way to its line's value.

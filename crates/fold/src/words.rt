@@ -4,21 +4,21 @@ ghost use Prim.Native.Nat.{_<_};
 ghost use Rattle.residue.specs.Residues.{P, el, word, inv, _⊟_, _⊠_};
 ghost use Rattle.fold.specs.Steps.{Invertible};
 use residue::Residue;
-use residue::word;
+use residue::entry;
 
 // T' - T at one place: what the slope of its line is divided by.
 pub fn gap(t: u32, t2: u32) -> u32
     requires { ⌜ (t < P) × (t2 < P) ⌝ }
     ensures { λ r. ⌜ r ≡ word (el t2 ⊟ el t) ⌝ }
 {
-    word::minus(t2, t)
+    entry::minus(t2, t)
 }
 
 pub fn times_gap(x: u32, t: u32, t2: u32) -> u32
     requires { ⌜ (x < P) × (t < P) × (t2 < P) ⌝ }
     ensures { λ r. ⌜ r ≡ word (el x ⊠ (el t2 ⊟ el t)) ⌝ }
 {
-    word::times(x, gap(t, t2))
+    entry::times(x, gap(t, t2))
 }
 
 pub fn inverse(a: u32) -> u32

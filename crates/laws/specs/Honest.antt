@@ -9,7 +9,8 @@ use lib.ListN.{length}
 use borrow.Author.Tests.{eqb-true}
 use Rattle.algebra.specs.Tests.{and-both}
 use Rattle.algebra.specs.WordLists.{Low}
-use Rattle.job.specs.Outcome.{refused, done, require-done, kept, _⨾_, both}
+use Rattle.job.specs.Outcome.{refused, done, kept, _⨾_}
+use Rattle.job.specs.OutcomeLaws.{require-done, both}
 use Rattle.job.specs.Limits.{blockSize}
 use Rattle.residue.specs.Residues.{P}
 use Rattle.residue.specs.Scans.{allBelow, all-below}

@@ -15,7 +15,8 @@ use Rattle.basefold.specs.Layout.{roundAt, blockAt, openingSize}
 use Rattle.code.specs.Encoding.{Encodes}
 use Rattle.code.specs.Lent.{lent, Coding, diagonals-mono}
 use Rattle.foldable.specs.Encode.{length-encode}
-use Rattle.job.specs.Limits.{deepest, widest, blockSize, diagonalsSize, power-most, product-most}
+use Rattle.job.specs.Limits.{maxDepth, maxRate, blockSize, diagonalsSize, maxMessage, maxBlock}
+use Rattle.job.specs.LimitLaws.{power-most, product-most}
 use Rattle.residue.specs.Residues.{F, el}
 use Rattle.algebra.specs.Lists.{put}
 use Rattle.open.specs.Steps.{values, roundOf, Sending, Giving, sentWords, Placing, Blocking, blockWords}
@@ -34,18 +35,18 @@ block-within c d i h =
 
 -- its place fits a word
 pub record Fitting (d c n N : ℕ) : Type 0 where
-  pub shallow : d ≤ 16
+  pub shallow : d ≤ maxDepth
   pub twice : 2 * n ≤ N
-  pub most : N ≤ 65536
-  pub above : c * (N - 2 * n) ≤ 1048576
-  pub block : c * n ≤ 1048576
+  pub most : N ≤ maxMessage
+  pub above : c * (N - 2 * n) ≤ maxBlock
+  pub block : c * n ≤ maxBlock
 
 pub fitting : (d i c n N : ℕ) → Placing d i c n → N ≡ 2 ^ d → Fitting d c n N
 fitting d i c n N 𝓟 e =
     let twice : 2 * n ≤ N = omega (arith, 𝓟 .power, two-pow-succ i, pow-mono (𝓟 .level)) in
-    let most : N ≤ 65536 = omega (arith, power-most d (𝓟 .deep)) in
-    let least : N - 2 * n ≤ 65536 = omega arith in
-    let small : n ≤ 65536 = omega arith in
+    let most : N ≤ maxMessage = omega (arith, power-most d (𝓟 .deep)) in
+    let least : N - 2 * n ≤ maxMessage = omega arith in
+    let small : n ≤ maxMessage = omega arith in
     record { shallow = 𝓟 .deep; twice = twice; most = most; above = product-most c (N - 2 * n) (𝓟 .wide) least; block = product-most c n (𝓟 .wide) small }
 
 pub from-is : (d i c n N : ℕ) → n ≡ 2 ^ i → N ≡ 2 ^ d → 3 * d + 1 + c * (N - 2 * n) ≡ blockAt c 0 d i
@@ -127,5 +128,5 @@ module _ (d i w : ℕ) (z o s : List ℕ) (𝓖 : Giving d i w z (length o) s) (
       (f ∙ ap₂ (λ a b. toWords 𝔽₁ (values (roundOf (el w) (elements 𝔽₁ (take a s)) (elements 𝔽₁ (take b z))))) power (add-one i)) (length-words 𝔽₁ _ ∙ sym long)
       ∙ ap (λ k. put (3 * (d - k)) (sentWords i w z s) o) (add-one i)
 
-pub diagonals-most : (c d : ℕ) → c ≤ widest → d ≤ deepest → diagonalsSize c d ≤ 1048576
+pub diagonals-most : (c d : ℕ) → c ≤ maxRate → d ≤ maxDepth → diagonalsSize c d ≤ maxBlock
 diagonals-most c d h l = product-most c (2 ^ d - 1) h (omega (arith, power-most d l))

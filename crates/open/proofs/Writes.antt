@@ -12,8 +12,9 @@ use borrow.Author.Tests.{eqb-true, leb-true}
 use Rattle.algebra.specs.Tests.{and-both}
 use Rattle.algebra.specs.WordLists.{Low}
 use Rattle.basefold.specs.Layout.{finalAt, openingSize}
-use Rattle.job.specs.Outcome.{Outcome, refused, done, _⨾_, require-done, both}
-use Rattle.job.specs.Limits.{rate-most}
+use Rattle.job.specs.Outcome.{Outcome, refused, done, _⨾_}
+use Rattle.job.specs.OutcomeLaws.{require-done, both}
+use Rattle.job.specs.LimitLaws.{rate-most}
 use Rattle.polynomial.specs.Evaluation.{Evaluates}
 use Rattle.residue.specs.Residues.{P}
 use Rattle.residue.specs.Scans.{allBelow, all-below}

@@ -9,7 +9,7 @@ use Rattle.algebra.specs.Lists.{put}
 use Rattle.algebra.specs.WordLists.{Low, elements, toWords}
 use Rattle.basefold.specs.Layout.{roundAt, finalAt, blockAt, openingSize}
 use Rattle.foldable.specs.Code.{encode}
-use Rattle.job.specs.Limits.{deepest, widest, blockSize}
+use Rattle.job.specs.Limits.{maxDepth, maxRate, blockSize}
 use Rattle.multilinear.specs.Folding.{foldMessage}
 use Rattle.multilinear.specs.Polynomial.{poly}
 use Rattle.multilinear.specs.Rounds.{h}
@@ -61,7 +61,7 @@ pub record Above (i : ℕ) (s : List ℕ) : Type 0 where
 -- a round at level i
 pub record Giving (d i w : ℕ) (z : List ℕ) (n : ℕ) (s : List ℕ) : Type 0 where
   pub level : i < d
-  pub deep : d ≤ deepest
+  pub deep : d ≤ maxDepth
   pub weight : w < P
   pub point : length z ≡ d
   pub low : Low P z
@@ -69,7 +69,7 @@ pub record Giving (d i w : ℕ) (z : List ℕ) (n : ℕ) (s : List ℕ) : Type 0
   pub above : Above i s
 
 pub record Taking (i w : ℕ) (z r s : List ℕ) : Type 0 where
-  pub deep : i < deepest
+  pub deep : i < maxDepth
   pub weight : w < P
   pub point : i < length z
   pub challenge : i < length r
@@ -88,8 +88,8 @@ pub record Taken (i w : ℕ) (z r s : List ℕ) (v : ℕ) (s' : List ℕ) : Type
 -- a block of level i, whose message has n words, among base blocks of c words
 pub record Placing (d i c n : ℕ) : Type 0 where
   pub level : i < d
-  pub deep : d ≤ deepest
-  pub wide : c ≤ widest
+  pub deep : d ≤ maxDepth
+  pub wide : c ≤ maxRate
   pub power : n ≡ 2 ^ i
 
 pub record Placed (d i c from to : ℕ) : Type 0 where
@@ -98,8 +98,8 @@ pub record Placed (d i c from to : ℕ) : Type 0 where
 
 pub record Blocking (d i : ℕ) (g t t' : List ℕ) (n : ℕ) (s : List ℕ) : Type 0 where
   pub level : i < d
-  pub deep : d ≤ deepest
-  pub wide : length g ≤ widest
+  pub deep : d ≤ maxDepth
+  pub wide : length g ≤ maxRate
   pub coding : Coding d g t t'
   pub size : n ≡ openingSize (length g) 0 d
   pub room : 2 ^ i ≤ length s
@@ -108,8 +108,8 @@ pub record Blocking (d i : ℕ) (g t t' : List ℕ) (n : ℕ) (s : List ℕ) : T
 -- a whole round
 pub record Running (d i w : ℕ) (g t t' z r : List ℕ) (n : ℕ) (s : List ℕ) : Type 0 where
   pub level : i < d
-  pub deep : d ≤ deepest
-  pub wide : length g ≤ widest
+  pub deep : d ≤ maxDepth
+  pub wide : length g ≤ maxRate
   pub coding : Coding d g t t'
   pub weight : w < P
   pub point : length z ≡ d

@@ -10,7 +10,7 @@ use Rattle.algebra.specs.WordLists.{Low, elements, toWords}
 use Rattle.basefold.specs.Layout.{openingSize}
 use Rattle.basefold.specs.Written.{opening}
 use Rattle.job.specs.Outcome.{Outcome, refused, done, number, require, _⨾_, kept}
-use Rattle.job.specs.Limits.{deepest, widest}
+use Rattle.job.specs.Limits.{maxDepth, maxRate}
 use Rattle.multilinear.specs.Polynomial.{poly}
 use Rattle.residue.specs.Residues.{P, F, K, word}
 use Rattle.residue.specs.Scans.{allBelow}
@@ -60,8 +60,8 @@ pub record Wrote (d c : ℕ) (g t t' m z r o s : List ℕ) (a : Written) (o' s' 
 
 -- what the work is lent: exact lengths, words below the modulus, a legal row and diagonals
 pub record Writes (d : ℕ) (g t t' m z r : List ℕ) (o s : ℕ) : Type 0 where
-  pub deep : d ≤ deepest
-  pub wide : length g ≤ widest
+  pub deep : d ≤ maxDepth
+  pub wide : length g ≤ maxRate
   pub coding : Coding d g t t'
   pub message : length m ≡ 2 ^ d
   pub point : length z ≡ d

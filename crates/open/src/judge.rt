@@ -29,7 +29,7 @@ fn buffers_ok(depth: u32, rate: u32, o: usize, s: usize) -> bool
     requires { ⌜ (depthOk depth ≡ true) × (rateOk rate ≡ true) ⌝ }
     ensures { λ b. ⌜ b ≡ bufferLengths depth rate o s ⌝ }
 {
-    let n = 3 * (depth as usize) + 1 + job::diagonals_len(rate, depth);
+    let n = 3 * (depth as usize) + 1 + job::diagonals_len(depth, rate);
     if o != n {
         return false;
     }

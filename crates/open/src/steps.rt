@@ -11,7 +11,7 @@ ghost use Rattle.residue.specs.Residues.{P, word, el, _⊞_, _⊠_};
 ghost use Rattle.algebra.specs.Lists.{put};
 ghost use Rattle.open.specs.Steps.{alike, roundOf, values, sentWords, blockWords, Ending, Ended, Sending, Folding, folding, Giving, Taking, Taken, Placing, Placed, Blocking};
 use code::encode;
-use residue::word;
+use residue::entry;
 use residue::words;
 
 // w times eq of z and x.
@@ -19,10 +19,10 @@ fn weigh(w: u32, z: u32, x: u32) -> u32
     requires { ⌜ (w < P) × (z < P) × (x < P) ⌝ }
     ensures { λ v. ⌜ v ≡ word (el w ⊠ alike (el z) (el x)) ⌝ }
 {
-    let both = word::times(z, x);
-    let not_z = word::minus(1, z);
-    let not_x = word::minus(1, x);
-    word::times(w, word::plus_product(both, not_z, not_x))
+    let both = entry::times(z, x);
+    let not_z = entry::minus(1, z);
+    let not_x = entry::minus(1, x);
+    entry::times(w, entry::plus_product(both, not_z, not_x))
 }
 
 // The value at x: that, times the line through left at 0 and left + right at 1.
@@ -30,7 +30,7 @@ fn value_at(w: u32, z: u32, left: u32, right: u32, x: u32) -> u32
     requires { ⌜ (w < P) × (z < P) × (left < P) × (right < P) × (x < P) ⌝ }
     ensures { λ v. ⌜ v ≡ word (el w ⊠ alike (el z) (el x) ⊠ (el left ⊞ el x ⊠ el right)) ⌝ }
 {
-    word::times(weigh(w, z, x), word::plus_product(left, x, right))
+    entry::times(weigh(w, z, x), entry::plus_product(left, x, right))
 }
 
 pub struct Ends {
@@ -84,7 +84,7 @@ fn fold(a: u32, m: &mut [u32])
     let mut j = 0;
     while j < half {
         let k = half + j;
-        m[j] = word::plus_product(m[j], a, m[k]);
+        m[j] = entry::plus_product(m[j], a, m[k]);
         j += 1;
     }
 }

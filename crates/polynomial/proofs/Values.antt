@@ -12,7 +12,8 @@ use borrow.Author.Tests.{eqb-true}
 use Rattle.algebra.specs.Tests.{and-both}
 use Rattle.algebra.specs.Words.{𝔽₁}
 use Rattle.algebra.specs.WordLists.{Low, low-take, low-drop, elements, elements-take, elements-drop, elements-append, length-elements, getD-elements}
-use Rattle.job.specs.Outcome.{done, require-done, held}
+use Rattle.job.specs.Outcome.{done}
+use Rattle.job.specs.OutcomeLaws.{require-done, held}
 use Rattle.job.specs.Limits.{depthOk}
 use Rattle.multilinear.specs.Polynomial.{poly, form-nil, poly-top}
 use Rattle.residue.specs.Residues.{P, K, el, word, _⊞_, _⊠_}

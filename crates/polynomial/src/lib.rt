@@ -11,8 +11,8 @@ ghost use Rattle.residue.specs.Scans.{allBelow};
 ghost use Rattle.polynomial.specs.Evaluation.{Evaluates, evaluateLengths, judgeEvaluating, evaluation, outcome};
 use job::Answer;
 use job::Refusal;
+use residue::entry;
 use residue::scan;
-use residue::word;
 
 pub enum Evaluation {
     Value(u32),
@@ -30,13 +30,13 @@ pub fn value(m: &[u32], z: &[u32]) -> u32
         return m[0];
     }
     if d == 1 {
-        return word::plus_product(m[0], z[0], m[1]);
+        return entry::plus_product(m[0], z[0], m[1]);
     }
     let top = d - 1;
     let half = m.len() / 2;
     let l = value(&m[..half], &z[..top]);
     let r = value(&m[half..], &z[..top]);
-    word::plus_product(l, z[top], r)
+    entry::plus_product(l, z[top], r)
 }
 
 fn lengths_ok(depth: u32, m: usize, z: usize) -> bool

@@ -5,7 +5,8 @@ use Prim.Native.Nat.{ℕ, zero, suc, _-_, _<_, _≤_}
 use native.Mathlib.Omega.{arith}
 use lib.Dec.{ltb}
 use borrow.Author.Tests.{ltb-true, lt-ltb}
-use Rattle.job.specs.Outcome.{refused, done, stop, pass}
+use Rattle.job.specs.Outcome.{refused, done}
+use Rattle.job.specs.OutcomeLaws.{stop, pass}
 use Rattle.residue.specs.declared.Residue.{Residue}
 use Rattle.residue.specs.declared.Parsed.the-variants.{Residue as Is, TooLarge}
 use Rattle.residue.specs.Residues.{P, parsed, parsedBy}

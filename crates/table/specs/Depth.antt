@@ -7,7 +7,7 @@ use native.Mathlib.Decide.{decLt}
 use native.Mathlib.Omega.{arith}
 use lib.Dec.{eqb}
 use borrow.Author.Tests.{eqb-true, eq-eqb}
-use Rattle.job.specs.Limits.{deepest}
+use Rattle.job.specs.Limits.{maxDepth}
 
 -- n is one of 2^0, .., 2^k, and then the d with n = 2^d
 unfoldable pub isPowerTo : ℕ → ℕ → Bool
@@ -20,10 +20,10 @@ exponentTo (suc k) n = cond (eqb n (2 ^ suc k)) (suc k) (exponentTo k n)
 
 -- a table has as many entries as a power of two, up to that of the largest depth
 abbrev pub isPower : ℕ → Bool
-isPower n = isPowerTo deepest n
+isPower n = isPowerTo maxDepth n
 
 abbrev pub exponent : ℕ → ℕ
-exponent n = exponentTo deepest n
+exponent n = exponentTo maxDepth n
 
 -- what the exponent is
 Is : ℕ → ℕ → ℕ → Type 0

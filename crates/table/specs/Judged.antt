@@ -8,7 +8,8 @@ use lib.IntN.{ℤ}
 use lib.ListN.{length}
 use borrow.Author.Tests.{eq-eqb, ne-eqb, eqb-true}
 use Rattle.algebra.specs.Tests.{all, and-both}
-use Rattle.job.specs.Outcome.{refused, done, stop, pass, refuses, holds, require-done, held}
+use Rattle.job.specs.Outcome.{refused, done}
+use Rattle.job.specs.OutcomeLaws.{stop, pass, refuses, holds, require-done, held}
 use Rattle.residue.specs.Scans.{allBelow}
 use Rattle.table.specs.Clearances.{inRange}
 use Rattle.table.specs.Depth.{isPower}

@@ -7,7 +7,7 @@ ghost use Rattle.table.specs.Depth.{isPower, exponent};
 pub fn is_power(n: usize) -> bool
     ensures { λ r. ⌜ r ≡ isPower n ⌝ }
 {
-    if n > job::message_len(job::DEEPEST) {
+    if n > job::message_len(job::MAX_DEPTH) {
         return false;
     }
     usize::count_ones(n) == 1

@@ -9,8 +9,10 @@ use borrow.Author.Tests.{eqb-true, ltb-true, leb-true}
 use Rattle.algebra.specs.Tests.{and-both}
 use Rattle.basefold.specs.Layout.{openingSize}
 use Rattle.basefold.specs.Checks.{Check, firstFailure, checks}
-use Rattle.job.specs.Outcome.{refused, done, require-done, held, both, after-refused, after-done}
-use Rattle.job.specs.Limits.{blockSize, rate-most}
+use Rattle.job.specs.Outcome.{refused, done}
+use Rattle.job.specs.OutcomeLaws.{require-done, held, both, after-refused, after-done}
+use Rattle.job.specs.Limits.{blockSize}
+use Rattle.job.specs.LimitLaws.{rate-most}
 use Rattle.residue.specs.Residues.{P, F, el}
 use Rattle.algebra.specs.Words.{𝔽₁}
 use Rattle.algebra.specs.WordLists.{elements}

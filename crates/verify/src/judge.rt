@@ -21,7 +21,7 @@ fn opening_len(depth: u32, rate: u32) -> usize
     requires { ⌜ (depthOk depth ≡ true) × (rateOk rate ≡ true) ⌝ }
     ensures { λ n. ⌜ n ≡ openingSize rate 0 depth ⌝ }
 {
-    3 * (depth as usize) + 1 + job::diagonals_len(rate, depth)
+    3 * (depth as usize) + 1 + job::diagonals_len(depth, rate)
 }
 
 // Of the lengths of g, t, t2, block, z, r and opening.
@@ -42,7 +42,7 @@ fn lengths_ok(
     if !parameters::lengths_ok(depth, rate, g, t, t2) {
         return false;
     }
-    if block != job::block_len(rate, depth) {
+    if block != job::block_len(depth, rate) {
         return false;
     }
     if z != depth as usize {
@@ -111,7 +111,7 @@ fn queries_ok(depth: u32, rate: u32, queries: &[u32]) -> bool
     if queries.len() > MOST {
         return false;
     }
-    all_within(job::block_len(rate, depth - 1), queries)
+    all_within(job::block_len(depth - 1, rate), queries)
 }
 
 pub fn judge(

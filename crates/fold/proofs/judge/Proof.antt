@@ -1,5 +1,5 @@
 use Rattle.fold.proofs.Judged.{level-bounds, lengths, due-1, due-2, due-3, due-4, due-6, due-none}
-use Rattle.job.specs.Limits.{rate-most}
+use Rattle.job.specs.LimitLaws.{rate-most}
 use Rattle.algebra.specs.Flags.{passes, fails}
 use mathlib.Core.Path.{sym, _∙_}
 use borrow.Author.Needs.{needs}

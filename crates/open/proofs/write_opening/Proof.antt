@@ -1,6 +1,7 @@
 -- `open::write_opening` meets its contract. Assumes nothing.
 use mathlib.Core.Path.{sym, ap, _∙_}
-use Rattle.job.specs.Outcome.{done, outcome, after-refused, after-done, kept-done, kept-refused}
+use Rattle.job.specs.Outcome.{done, outcome}
+use Rattle.job.specs.OutcomeLaws.{after-refused, after-done, kept-done, kept-refused}
 use Rattle.open.proofs.Writes.{writes}
 use borrow.Author.Needs.{needs}
 use Rattle.open.proofs.write_opening.Statement.{statement}

@@ -1,4 +1,5 @@
-use Rattle.job.specs.Outcome.{done, outcome, after-refused, after-done}
+use Rattle.job.specs.Outcome.{done, outcome}
+use Rattle.job.specs.OutcomeLaws.{after-refused, after-done}
 use mathlib.Core.Path.{sym, ap, _∙_}
 use Rattle.polynomial.proofs.Values.{evaluates}
 use borrow.Author.Needs.{needs}

@@ -1,4 +1,4 @@
-use Rattle.job.specs.Outcome.{stop, pass, refuses, holds}
+use Rattle.job.specs.OutcomeLaws.{stop, pass, refuses, holds}
 use Rattle.algebra.specs.Flags.{passes, fails}
 use Rattle.polynomial.specs.Evaluation.{judgeEvaluating}
 use borrow.Author.Needs.{needs}

@@ -1,4 +1,5 @@
-use Rattle.job.specs.Outcome.{outcome, require, _⨾_, stop, pass, after-refused, after-done}
+use Rattle.job.specs.Outcome.{outcome, require, _⨾_}
+use Rattle.job.specs.OutcomeLaws.{stop, pass, after-refused, after-done}
 use mathlib.Core.Path.{sym, ap, _∙_}
 use lib.ListN.{length}
 use Rattle.algebra.specs.Tests.{and-both}

@@ -1,14 +1,14 @@
 use mathlib.Core.Path.{sym}
 use borrow.Author.Tests.{eq-eqb, ne-eqb, leb-true}
 use Rattle.algebra.specs.Flags.{passes, fails}
-use Rattle.job.specs.Limits.{rate-most}
+use Rattle.job.specs.LimitLaws.{rate-most}
 use Rattle.decode.specs.Decoding.{decodeLengths}
 use borrow.Author.Needs.{needs}
 use Rattle.decode.proofs.decode.lengths_ok.Statement.{statement}
 use Rattle.decode.proofs.decode.lengths_ok.Tie as tie
 
 block-len-requires : tie.Need-block-len-requires
-block-len-requires c κs = (rate-most _ (c .pre .1), leb-true _ _ (c .pre .0))
+block-len-requires c κs = (leb-true _ _ (c .pre .0), rate-most _ (c .pre .1))
 
 lengths-ok-requires : tie.Need-lengths-ok-requires
 lengths-ok-requires c κs = search needs

@@ -2,7 +2,7 @@
 use mathlib.Core.Path.{sym}
 use native.Mathlib.Omega.{arith}
 use borrow.Author.Tests.{eq-eqb, ne-eqb, leb-true}
-use Rattle.job.specs.Limits.{rate-most, power-most}
+use Rattle.job.specs.LimitLaws.{rate-most, power-most}
 use Rattle.open.specs.Writing.{bufferLengths}
 use Rattle.open.proofs.Places.{diagonals-most}
 use borrow.Author.Needs.{needs}
@@ -16,7 +16,7 @@ add-n : tie.Need-add-n
 add-n c = search needs
 
 diagonals-len-requires : tie.Need-diagonals-len-requires
-diagonals-len-requires c κs = (rate-most _ (c .pre .1), leb-true _ _ (c .pre .0))
+diagonals-len-requires c κs = (leb-true _ _ (c .pre .0), rate-most _ (c .pre .1))
 
 add-n-2 : tie.Need-add-n-2
 add-n-2 c = let s = c .before in let d = leb-true _ _ (s .pre .0) in let m = diagonals-most (s .args .rate) (s .args .depth) (rate-most _ (s .pre .1)) d in omega (arith, c .diagonals-len .ensures)

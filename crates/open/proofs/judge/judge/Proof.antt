@@ -3,7 +3,8 @@ use mathlib.Core.Path.{sym, ap, _∙_}
 use lib.ListN.{length}
 use Rattle.algebra.specs.Tests.{and-both}
 use Rattle.algebra.specs.Flags.{passes, fails}
-use Rattle.job.specs.Outcome.{outcome, require, _⨾_, stop, pass, after-refused, after-done}
+use Rattle.job.specs.Outcome.{outcome, require, _⨾_}
+use Rattle.job.specs.OutcomeLaws.{stop, pass, after-refused, after-done}
 use Rattle.code.specs.Parameters.{legalRow, within, row-lengths}
 use Rattle.open.specs.Writing.{writeLengths, judgeWriting}
 use borrow.Author.Needs.{needs}

@@ -1,7 +1,7 @@
 -- Up to the largest power, one set bit is being a power of two. Assumes nothing.
 use native.Mathlib.Omega.{arith}
 use borrow.Author.Needs.{needs}
-use Rattle.job.specs.Limits.{deepest}
+use Rattle.job.specs.Limits.{maxDepth}
 use Rattle.table.proofs.Bits.{one-bit, too-large}
 use Rattle.table.proofs.length.is_power.Statement.{statement}
 use Rattle.table.proofs.length.is_power.Tie as tie
@@ -10,10 +10,10 @@ message-len-requires : tie.Need-message-len-requires
 message-len-requires c κs = search needs
 
 returns : tie.Need-returns
-returns c = too-large deepest _ (omega arith)
+returns c = too-large maxDepth _ (omega arith)
 
 returns-2 : tie.Need-returns-2
-returns-2 c = one-bit deepest _ (omega arith)
+returns-2 c = one-bit maxDepth _ (omega arith)
 
 pub is-power-spec : {M : Type 1} → statement M
 is-power-spec = tie.close (tie.spec message-len-requires returns returns-2)

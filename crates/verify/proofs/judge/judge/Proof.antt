@@ -2,7 +2,8 @@ use mathlib.Core.Path.{sym, ap, _∙_}
 use lib.ListN.{length}
 use Rattle.algebra.specs.Tests.{and-both}
 use Rattle.algebra.specs.Flags.{passes, fails}
-use Rattle.job.specs.Outcome.{outcome, stop, pass, after-refused, after-done, refuses, holds, regroup, require, _⨾_}
+use Rattle.job.specs.Outcome.{outcome, require, _⨾_}
+use Rattle.job.specs.OutcomeLaws.{stop, pass, after-refused, after-done, refuses, holds, regroup}
 use Rattle.code.specs.Parameters.{legalRow, within, row-lengths}
 use Rattle.verify.specs.Verifying.{openedLengths, openedWords, queriesOk, judgeVerifying}
 use borrow.Author.Needs.{needs}

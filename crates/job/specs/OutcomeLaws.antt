@@ -1,0 +1,92 @@
+-- Laws of outcomes: which refusal decides, what a buffer holds then, and that an outcome says which answer was given. Assumes nothing.
+use mathlib.Core.Path.{_≡_, refl, sym, ap, _∙_}
+use mathlib.Core.Bool.{Bool, true, false, _&&_}
+use mathlib.Core.List.{List}
+use Prim.Native.Nat.{ℕ, zero, suc}
+use native.Mathlib.Omega.{arith}
+use Rattle.job.specs.declared.Refusal.{Refusal}
+use Rattle.job.specs.declared.Refusal.the-variants.{Depth, Rate, Length, Word, BaseRow, Diagonals, Queries, NoCodeword, Clearance}
+use Rattle.job.specs.declared.Answer.{Answer}
+use Rattle.job.specs.declared.Answer.the-variants.{Done, Refused}
+use Rattle.job.specs.Outcome.{Outcome, refused, done, outcome, require, _⨾_, kept}
+
+-- what the first outcome decides of two
+pub after-refused : {A B : Type 0} {o : Outcome A} (next : Outcome B) {n : ℕ} → refused n ≡ o → refused n ≡ o ⨾ next
+after-refused next e = ap (λ o. o ⨾ next) e
+
+pub after-done : {A B : Type 0} {o : Outcome A} {next x : Outcome B} {a : A} → done a ≡ o → x ≡ next → x ≡ o ⨾ next
+after-done {next = next} e f = f ∙ ap (λ o. o ⨾ next) e
+
+pub stop : {B : Type 0} {b : Bool} {n : ℕ} (next : Outcome B) → b ≡ false → refused n ≡ require b n ⨾ next
+stop {n = n} next e = sym (ap (λ t. require t n ⨾ next) e)
+
+pub pass : {B : Type 0} {b : Bool} (n : ℕ) {next x : Outcome B} → b ≡ true → x ≡ next → x ≡ require b n ⨾ next
+pass n {next = next} e f = f ∙ sym (ap (λ t. require t n ⨾ next) e)
+
+-- the last test of all
+pub refuses : {b : Bool} {n : ℕ} → b ≡ false → refused n ≡ require b n
+refuses {n = n} e = sym (ap (λ t. require t n) e)
+
+pub holds : {b : Bool} (n : ℕ) → b ≡ true → done tt ≡ require b n
+holds n e = sym (ap (λ t. require t n) e)
+
+pub held : (b : Bool) (n : ℕ) → require b n ≡ done tt → b ≡ true
+held true n e = refl
+held false n e = absurd (let z : _≡_ {A = ℕ} 0 1 = cc in omega arith)
+
+pub require-done : {B : Type 0} (b : Bool) (n : ℕ) {next : Outcome B} {a : B} → require b n ⨾ next ≡ done a → (b ≡ true) × (next ≡ done a)
+require-done true n e = (refl, e)
+require-done false n e = absurd (let z : _≡_ {A = ℕ} 0 1 = cc in omega arith)
+
+-- an outcome is done where all are
+pub both : {A : Type 0} (o : Outcome (Unit {0})) {next : Outcome A} {a : A} → o ⨾ next ≡ done a → (o ≡ done tt) × (next ≡ done a)
+both (refused n) e = absurd (let z : _≡_ {A = ℕ} 0 1 = cc in omega arith)
+both (done tt) e = (refl, e)
+
+pub regroup : {A B C : Type 0} (o : Outcome A) (p : Outcome B) (q : Outcome C) → (o ⨾ p) ⨾ q ≡ o ⨾ p ⨾ q
+regroup (refused n) p q = refl
+regroup (done a) p q = refl
+
+-- a buffer after a job that is done, and after one that is refused
+pub kept-done : {A B : Type 0} {o : Outcome A} {a : A} (old : List B) {new out : List B} → o ≡ done a → out ≡ new → out ≡ kept o old new
+kept-done old {new = new} e f = f ∙ sym (ap (λ o. kept o old new) e)
+
+pub kept-refused : {A B : Type 0} {o : Outcome A} {n : ℕ} (old new : List B) → o ≡ refused n → old ≡ kept o old new
+kept-refused old new e = sym (ap (λ o. kept o old new) e)
+
+-- a test that is only asked where another holds, after that one
+pub guarded : {B : Type 0} (a b : Bool) (n k : ℕ) (next : Outcome B) → require a n ⨾ require (a && b) k ⨾ next ≡ require a n ⨾ require b k ⨾ next
+guarded true b n k next = refl
+guarded false b n k next = refl
+
+-- an answer is determined by its outcome
+abbrev ofNumber : ℕ → Refusal
+ofNumber zero = Depth
+ofNumber (suc zero) = Depth
+ofNumber (suc (suc zero)) = Rate
+ofNumber (suc (suc (suc zero))) = Length
+ofNumber (suc (suc (suc (suc zero)))) = Word
+ofNumber (suc (suc (suc (suc (suc zero))))) = BaseRow
+ofNumber (suc (suc (suc (suc (suc (suc zero)))))) = Diagonals
+ofNumber (suc (suc (suc (suc (suc (suc (suc zero))))))) = Queries
+ofNumber (suc (suc (suc (suc (suc (suc (suc (suc zero)))))))) = NoCodeword
+ofNumber (suc (suc (suc (suc (suc (suc (suc (suc (suc n))))))))) = Clearance
+
+abbrev ofOutcome : Outcome (Unit {0}) → Answer
+ofOutcome (refused n) = Refused (ofNumber n)
+ofOutcome (done a) = Done
+
+of-outcome : (r : Answer) → ofOutcome (outcome r) ≡ r
+of-outcome Done = refl
+of-outcome (Refused Depth) = refl
+of-outcome (Refused Rate) = refl
+of-outcome (Refused Length) = refl
+of-outcome (Refused Word) = refl
+of-outcome (Refused BaseRow) = refl
+of-outcome (Refused Diagonals) = refl
+of-outcome (Refused Queries) = refl
+of-outcome (Refused NoCodeword) = refl
+of-outcome (Refused Clearance) = refl
+
+pub same-answer : (r r' : Answer) → outcome r ≡ outcome r' → r ≡ r'
+same-answer r r' e = sym (of-outcome r) ∙ ap ofOutcome e ∙ of-outcome r'
