@@ -9,7 +9,7 @@ use borrow.Fn.PlainCycle.{Measures, is, falls, and}
 use Rattle.polynomial.proofs.value.Reads as value
 use Rattle.polynomial.proofs.value.Kinds as value-kinds
 use Rattle.polynomial.proofs.+value.Lts-value as value-lts
-use Rattle.residue.proofs.word.plus_product.Reads as plus-product-reads
+use Rattle.residue.proofs.entry.plus_product.Reads as plus-product-reads
 use Rattle.polynomial.proofs.+value.{statement}
 use Rattle.polynomial.proofs.+value.Tie.{close}
 

@@ -8,7 +8,7 @@ use borrow.Fn.PlainCycle.{Measures, is, falls, and}
 use Rattle.decode.proofs.undo.undo.Reads as undo
 use Rattle.decode.proofs.undo.undo.Kinds as undo-kinds
 use Rattle.decode.proofs.undo.+undo.Lts-undo as undo-lts
-use Rattle.residue.proofs.word.times.Reads as times-reads
+use Rattle.residue.proofs.entry.times.Reads as times-reads
 use Rattle.decode.proofs.undo.halved.Reads as halved-reads
 use Rattle.decode.proofs.undo.uncross.Reads as uncross-reads
 use Rattle.decode.proofs.undo.+undo.{statement}
