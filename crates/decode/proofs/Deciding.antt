@@ -16,7 +16,7 @@ use Rattle.foldable.specs.Code.{encode, Codeword}
 use Rattle.foldable.specs.Decode.{decodes, length-decode}
 use Rattle.foldable.specs.Encode.{length-encode}
 use Rattle.residue.specs.Residues.{P, F}
-use Rattle.code.specs.Lent.{lent}
+use Rattle.parameters.specs.Lent.{lent}
 use Rattle.job.specs.declared.Answer.the-variants.{Done, Refused}
 use Rattle.job.specs.declared.Refusal.the-variants.{NoCodeword}
 use Rattle.decode.specs.Decoding.{Settled, message, none}

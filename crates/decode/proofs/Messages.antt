@@ -16,7 +16,8 @@ use Rattle.foldable.specs.Columns.{pick, length-pick, getD-pick, restrict, lega
 use Rattle.foldable.specs.Decode.{undo, decode}
 use Rattle.job.specs.Limits.{diagonalsSize}
 use Rattle.residue.specs.Residues.{P, F, K, el, word, inv, _⊟_}
-use Rattle.code.specs.Lent.{lent, diagonal, length-diagonal, getD-diagonal}
+use Rattle.parameters.specs.Lent.{lent, diagonal}
+use Rattle.parameters.specs.LentLaws.{length-diagonal, getD-diagonal}
 use Rattle.decode.specs.Steps.{gap, inverted, Undoing, Laid, Undone, Decodes, decoded}
 use Rattle.decode.proofs.Places.{word-el, word-low, low-row}
 use Rattle.decode.proofs.Strides.{place, within}

@@ -21,7 +21,7 @@ use Rattle.foldable.specs.Level.{lines, slopes}
 use Rattle.job.specs.Limits.{maxRate, maxDepth, diagonalsSize, maxBlock}
 use Rattle.job.specs.LimitLaws.{power-most, product-most}
 use Rattle.residue.specs.Residues.{P, F, K, Element, el, word, inv, _⊟_, _⊠_}
-use Rattle.code.specs.Lent.{level-end, diagonals-mono}
+use Rattle.parameters.specs.LentLaws.{level-end, diagonals-mono}
 use Rattle.decode.specs.Steps.{Uncrossing, uncrossed, slopeAt, startAt, Halved, Undoing, Laid, Undone}
 use Rattle.decode.proofs.Lines.{left, right, slopes-are, starts-are}
 use Rattle.decode.proofs.Strides.{place}

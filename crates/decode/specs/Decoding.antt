@@ -13,8 +13,8 @@ use Rattle.job.specs.Outcome.{Outcome, refused, done, outcome, require, _⨾_}
 use Rattle.job.specs.Limits.{blockSize}
 use Rattle.residue.specs.Residues.{P, F}
 use Rattle.residue.specs.Scans.{allBelow}
-use Rattle.code.specs.Lent.{lent}
-use Rattle.code.specs.Parameters.{limits, rowLengths, rowWords, legalRow}
+use Rattle.parameters.specs.Lent.{lent}
+use Rattle.parameters.specs.Parameters.{limits, rowLengths, rowWords, legalRow}
 
 -- of the lengths of g, T, T', block, result and work buffer
 unfoldable pub decodeLengths : ℕ → ℕ → ℕ → ℕ → ℕ → ℕ → ℕ → ℕ → Bool

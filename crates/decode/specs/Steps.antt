@@ -14,7 +14,7 @@ use Rattle.foldable.specs.Code.{Code, Legal}
 use Rattle.foldable.specs.Decode.{undo, decode}
 use Rattle.job.specs.Limits.{maxDepth, maxRate, blockSize, diagonalsSize}
 use Rattle.residue.specs.Residues.{P, F, K, Element, el, word, inv, _⊟_, _⊠_}
-use Rattle.code.specs.Lent.{lent, Coding}
+use Rattle.parameters.specs.Lent.{lent, Coding}
 
 infixr 71 _⊛_
 open Vectors (vectors K) using (_⊛_)

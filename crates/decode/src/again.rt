@@ -7,7 +7,7 @@ ghost use Rattle.algebra.specs.WordLists.{elements, toWords};
 ghost use Rattle.foldable.specs.Code.{encode as codeword};
 ghost use Rattle.foldable.specs.Lift.{spread as spreads};
 ghost use Rattle.residue.specs.Residues.{F};
-ghost use Rattle.code.specs.Lent.{lent};
+ghost use Rattle.parameters.specs.Lent.{lent};
 ghost use Rattle.decode.specs.Steps.{Spreading, Again};
 use code::lift;
 use code::spread;

@@ -9,7 +9,7 @@ ghost use Rattle.foldable.specs.Code.{encode as codeword};
 ghost use Rattle.job.specs.Outcome.{outcome};
 ghost use Rattle.job.specs.Limits.{depthOk, rateOk};
 ghost use Rattle.residue.specs.Residues.{F};
-ghost use Rattle.code.specs.Lent.{lent};
+ghost use Rattle.parameters.specs.Lent.{lent};
 ghost use Rattle.decode.specs.Decoding.{decodeLengths, judgeDecoding, Settled, Decoded};
 ghost use Rattle.decode.specs.Steps.{allSame, decoded, Decodes};
 use crate::again;

@@ -16,7 +16,8 @@ use Rattle.job.specs.OutcomeLaws.{require-done, held}
 use Rattle.job.specs.declared.Refusal.{Refusal}
 use Rattle.job.specs.declared.Answer.the-variants.{Done, Refused}
 use Rattle.residue.specs.Residues.{P}
-use Rattle.residue.specs.Scans.{allBelow, allDiffer, all-below, all-differ}
+use Rattle.residue.specs.Scans.{allBelow, allDiffer}
+use Rattle.residue.specs.ScanLaws.{all-below, all-differ}
 use Rattle.fold.specs.Job.{levelOk, lengthsOk, wordsOk, judgeFolding, foldWords, Folded}
 use Rattle.fold.specs.Steps.{Diagonals}
 

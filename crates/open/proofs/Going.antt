@@ -17,14 +17,14 @@ use Rattle.basefold.specs.Layout.{blockAt, finalAt, openingSize}
 use Rattle.basefold.specs.Written.{opening}
 use Rattle.basefold.specs.Descent.{legal-at, block-below, descend-encode}
 use Rattle.basefold.specs.Rounds.{length-rounds, sent-is, carried-is}
-use Rattle.code.specs.Lent.{lent}
+use Rattle.parameters.specs.Lent.{lent}
 use Rattle.foldable.specs.Code.{encode, size, Legal}
 use Rattle.foldable.specs.Encode.{length-encode}
 use Rattle.multilinear.specs.Corners.{eq, eq-nil}
 use Rattle.multilinear.specs.Folding.{foldMessage, folded, folded-first, folded-last, folded-step, eq-step}
 use Rattle.multilinear.specs.Rounds.{h}
 use Rattle.residue.specs.Residues.{F, K, Element, el, word, _⊠_}
-use Rattle.residue.specs.Scans.{is-low}
+use Rattle.residue.specs.ResidueLaws.{is-low}
 use Rattle.open.specs.Laws.{length-opening, h-left}
 use Rattle.algebra.specs.Lists.{put}
 use Rattle.open.specs.Steps.{alike, values, roundOf, leftOf, sentWords, blockWords, Running, Ran}

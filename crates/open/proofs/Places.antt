@@ -13,7 +13,8 @@ use Rattle.algebra.specs.WordLists.{low-take, elements, toWords, length-words, 
 use Rattle.basefold.specs.Descent.{legal-at}
 use Rattle.basefold.specs.Layout.{roundAt, blockAt, openingSize}
 use Rattle.code.specs.Encoding.{Encodes}
-use Rattle.code.specs.Lent.{lent, Coding, diagonals-mono}
+use Rattle.parameters.specs.Lent.{lent, Coding}
+use Rattle.parameters.specs.LentLaws.{diagonals-mono}
 use Rattle.foldable.specs.Encode.{length-encode}
 use Rattle.job.specs.Limits.{maxDepth, maxRate, blockSize, diagonalsSize, maxMessage, maxBlock}
 use Rattle.job.specs.LimitLaws.{power-most, product-most}

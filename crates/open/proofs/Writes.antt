@@ -17,8 +17,10 @@ use Rattle.job.specs.OutcomeLaws.{require-done, both}
 use Rattle.job.specs.LimitLaws.{rate-most}
 use Rattle.polynomial.specs.Evaluation.{Evaluates}
 use Rattle.residue.specs.Residues.{P}
-use Rattle.residue.specs.Scans.{allBelow, all-below}
-use Rattle.code.specs.Parameters.{limits, within, rowLengths, rowWords, row-lengths, lent-coding}
+use Rattle.residue.specs.Scans.{allBelow}
+use Rattle.residue.specs.ScanLaws.{all-below}
+use Rattle.parameters.specs.Parameters.{limits, rowLengths, rowWords}
+use Rattle.parameters.specs.ParameterLaws.{within, row-lengths, lent-coding}
 use Rattle.open.specs.Writing.{inputLengths, bufferLengths, writeLengths, inputWords, judgeWriting, Writes}
 
 -- the first of two outcomes, where both are done

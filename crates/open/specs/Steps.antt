@@ -15,7 +15,7 @@ use Rattle.multilinear.specs.Polynomial.{poly}
 use Rattle.multilinear.specs.Rounds.{h}
 use Rattle.polynomial.specs.Evaluation.{Evaluates}
 use Rattle.residue.specs.Residues.{P, F, K, Element, el, word, _⊞_, _⊟_, _⊠_}
-use Rattle.code.specs.Lent.{lent, Coding}
+use Rattle.parameters.specs.Lent.{lent, Coding}
 
 -- eq of one variable
 abbrev pub alike : Element → Element → Element

@@ -14,8 +14,8 @@ use Rattle.job.specs.Limits.{maxDepth, maxRate}
 use Rattle.multilinear.specs.Polynomial.{poly}
 use Rattle.residue.specs.Residues.{P, F, K, word}
 use Rattle.residue.specs.Scans.{allBelow}
-use Rattle.code.specs.Lent.{lent, Coding}
-use Rattle.code.specs.Parameters.{limits, rowLengths, rowWords, legalRow}
+use Rattle.parameters.specs.Lent.{lent, Coding}
+use Rattle.parameters.specs.Parameters.{limits, rowLengths, rowWords, legalRow}
 use Rattle.open.specs.declared.Written.{Written}
 use Rattle.open.specs.declared.Written.the-variants.{Value, Refused}
 

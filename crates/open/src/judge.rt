@@ -3,7 +3,7 @@ ghost use mathlib.Core.Path.{_≡_};
 ghost use mathlib.Core.Bool.{true, _&&_};
 ghost use Rattle.job.specs.Outcome.{outcome};
 ghost use Rattle.job.specs.Limits.{depthOk, rateOk};
-ghost use Rattle.code.specs.Parameters.{rowWords};
+ghost use Rattle.parameters.specs.Parameters.{rowWords};
 ghost use Rattle.open.specs.Writing.{inputLengths, bufferLengths, writeLengths, inputWords, judgeWriting};
 use code::parameters;
 use job::Answer;

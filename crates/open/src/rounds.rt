@@ -7,7 +7,7 @@ ghost use Rattle.algebra.specs.WordLists.{elements, toWords};
 ghost use Rattle.basefold.specs.Layout.{finalAt};
 ghost use Rattle.basefold.specs.Written.{opening as written};
 ghost use Rattle.residue.specs.Residues.{F};
-ghost use Rattle.code.specs.Lent.{lent};
+ghost use Rattle.parameters.specs.Lent.{lent};
 ghost use Rattle.open.specs.Steps.{Running, Ran};
 ghost use Rattle.open.specs.Writing.{Writes};
 use crate::steps;

@@ -17,7 +17,8 @@ use Rattle.job.specs.OutcomeLaws.{require-done, held}
 use Rattle.job.specs.Limits.{depthOk}
 use Rattle.multilinear.specs.Polynomial.{poly, form-nil, poly-top}
 use Rattle.residue.specs.Residues.{P, K, el, word, _⊞_, _⊠_}
-use Rattle.residue.specs.Scans.{allBelow, all-below}
+use Rattle.residue.specs.Scans.{allBelow}
+use Rattle.residue.specs.ScanLaws.{all-below}
 use Rattle.polynomial.specs.Evaluation.{Evaluates, evaluateLengths, judgeEvaluating}
 
 -- the variables below the top one, and that one

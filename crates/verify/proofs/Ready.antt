@@ -16,9 +16,11 @@ use Rattle.job.specs.LimitLaws.{rate-most}
 use Rattle.residue.specs.Residues.{P, F, el}
 use Rattle.algebra.specs.Words.{𝔽₁}
 use Rattle.algebra.specs.WordLists.{elements}
-use Rattle.code.specs.Lent.{lent}
-use Rattle.residue.specs.Scans.{allBelow, all-below}
-use Rattle.code.specs.Parameters.{limits, rowLengths, rowWords, legalRow, within, row-lengths, lent-coding}
+use Rattle.parameters.specs.Lent.{lent}
+use Rattle.residue.specs.Scans.{allBelow}
+use Rattle.residue.specs.ScanLaws.{all-below}
+use Rattle.parameters.specs.Parameters.{limits, rowLengths, rowWords, legalRow}
+use Rattle.parameters.specs.ParameterLaws.{within, row-lengths, lent-coding}
 use Rattle.verify.specs.Verifying.{openedLengths, openedWords, queriesOk, judgeVerifying, verification}
 use Rattle.verify.specs.Steps.{Opened, Ready}
 use Rattle.verify.proofs.Queries.{querying}

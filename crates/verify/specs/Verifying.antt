@@ -14,8 +14,8 @@ use Rattle.job.specs.Outcome.{Outcome, done, require, _⨾_}
 use Rattle.job.specs.Limits.{blockSize}
 use Rattle.residue.specs.Residues.{P, F, el}
 use Rattle.residue.specs.Scans.{allBelow}
-use Rattle.code.specs.Lent.{lent}
-use Rattle.code.specs.Parameters.{limits, rowLengths, rowWords, legalRow}
+use Rattle.parameters.specs.Lent.{lent}
+use Rattle.parameters.specs.Parameters.{limits, rowLengths, rowWords, legalRow}
 
 -- the most queries
 abbrev pub most : ℕ

@@ -1,4 +1,4 @@
-use Rattle.residue.specs.Scans.{is-low}
+use Rattle.residue.specs.ResidueLaws.{is-low}
 use Prim.Native.Nat.{_-_, ℕ, _<_}
 use native.Mathlib.Omega.{arith}
 use lib.ListN.{length, length-take}

@@ -3,7 +3,7 @@ use Rattle.algebra.specs.Words.{𝔽₁}
 use Rattle.algebra.specs.WordLists.{elements, toWords}
 use Rattle.foldable.specs.Code.{encode}
 use Rattle.residue.specs.Residues.{F}
-use Rattle.code.specs.Lent.{lent}
+use Rattle.parameters.specs.Lent.{lent}
 use Rattle.decode.specs.Steps.{allSame}
 use Rattle.decode.proofs.Deciding.{again, same-lengths}
 use Rattle.decode.proofs.decode.is_codeword.Statement.{statement}

@@ -4,7 +4,8 @@ use mathlib.Core.Path.{sym, ap, _∙_}
 use lib.ListN.{length}
 use Rattle.algebra.specs.Tests.{and-both}
 use Rattle.algebra.specs.Flags.{passes, fails}
-use Rattle.code.specs.Parameters.{limits, legalRow, within, row-lengths}
+use Rattle.parameters.specs.Parameters.{limits, legalRow}
+use Rattle.parameters.specs.ParameterLaws.{within, row-lengths}
 use Rattle.decode.specs.Decoding.{decodeLengths, judgeDecoding}
 use borrow.Author.Needs.{needs}
 use Rattle.decode.proofs.decode.judge.Statement.{statement}

@@ -5,7 +5,8 @@ use Rattle.algebra.specs.Tests.{and-both}
 use Rattle.algebra.specs.Flags.{passes, fails}
 use Rattle.job.specs.Outcome.{outcome, require, _⨾_}
 use Rattle.job.specs.OutcomeLaws.{stop, pass, after-refused, after-done}
-use Rattle.code.specs.Parameters.{legalRow, within, row-lengths}
+use Rattle.parameters.specs.Parameters.{legalRow}
+use Rattle.parameters.specs.ParameterLaws.{within, row-lengths}
 use Rattle.open.specs.Writing.{writeLengths, judgeWriting}
 use borrow.Author.Needs.{needs}
 use Rattle.open.proofs.judge.judge.Statement.{statement}

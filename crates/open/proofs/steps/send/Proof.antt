@@ -1,7 +1,7 @@
 -- `open::steps::send` meets its contract. Assumes nothing.
 use native.Mathlib.Omega.{arith}
 use lib.Dec.{lit<}
-use Rattle.residue.specs.Scans.{is-low}
+use Rattle.residue.specs.ResidueLaws.{is-low}
 use Rattle.open.proofs.Sends.{sent}
 use borrow.Author.Needs.{needs}
 use Rattle.open.proofs.steps.send.Statement.{statement}

@@ -1,5 +1,5 @@
 -- `open::steps::weigh` meets its contract. Assumes nothing.
-use Rattle.residue.specs.Scans.{is-low}
+use Rattle.residue.specs.ResidueLaws.{is-low}
 use Rattle.open.proofs.Sends.{weighed}
 use borrow.Author.Needs.{needs}
 use Rattle.open.proofs.steps.weigh.Statement.{statement}

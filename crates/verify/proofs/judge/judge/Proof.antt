@@ -4,7 +4,8 @@ use Rattle.algebra.specs.Tests.{and-both}
 use Rattle.algebra.specs.Flags.{passes, fails}
 use Rattle.job.specs.Outcome.{outcome, require, _⨾_}
 use Rattle.job.specs.OutcomeLaws.{stop, pass, after-refused, after-done, refuses, holds, regroup}
-use Rattle.code.specs.Parameters.{legalRow, within, row-lengths}
+use Rattle.parameters.specs.Parameters.{legalRow}
+use Rattle.parameters.specs.ParameterLaws.{within, row-lengths}
 use Rattle.verify.specs.Verifying.{openedLengths, openedWords, queriesOk, judgeVerifying}
 use borrow.Author.Needs.{needs}
 use Rattle.verify.proofs.judge.judge.Statement.{statement}
