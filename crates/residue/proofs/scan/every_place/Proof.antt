@@ -33,8 +33,8 @@ mul-ok-2 c = search needs
 shared-slice-read-ok-2 : tie.Need-shared-slice-read-ok-2 Inv-loop μ-loop
 shared-slice-read-ok-2 c = search needs
 
-add-i : tie.Need-add-i Inv-loop μ-loop
-add-i c = search needs
+add-j : tie.Need-add-j Inv-loop μ-loop
+add-j c = search needs
 
 loop-less : tie.Need-loop-less Inv-loop μ-loop
 loop-less c = search needs
@@ -43,13 +43,13 @@ loop-again : tie.Need-loop-again Inv-loop μ-loop
 loop-again c =
     let l = c .before .before .before .loop in
     let a = c .before .before .before .before .before .before .before .args in
-    (omega arith, all₂-turn (λ x y. Bool·beq (eqb x y) (a .equal)) (l .i) (a .s .now) (a .t .now) 0 (search needs) (search needs) (l .inv .1) refl)
+    (omega arith, all₂-turn (λ x y. Bool·beq (eqb x y) (a .equal)) (l .j) (a .s .now) (a .t .now) 0 (search needs) (search needs) (l .inv .1) refl)
 
 returns : tie.Need-returns Inv-loop μ-loop
 returns c =
     let l = c .before .loop in
     let a = c .before .before .before .before .before .args in
-    all₂-end (λ x y. Bool·beq (eqb x y) (a .equal)) (l .i) (a .s .now) (a .t .now) (λ h k. c .before .before .shorter .ensures .2 (omega arith) (omega arith)) (l .inv .1)
+    all₂-end (λ x y. Bool·beq (eqb x y) (a .equal)) (l .j) (a .s .now) (a .t .now) (λ h k. c .before .before .shorter .ensures .2 (omega arith) (omega arith)) (l .inv .1)
 
 pub every-place-spec : {M : Type 1} → statement M
 every-place-spec =
@@ -63,7 +63,7 @@ every-place-spec =
     shared-slice-read-ok
     mul-ok-2
     shared-slice-read-ok-2
-    add-i
+    add-j
     loop-less
     loop-again
     returns)
