@@ -6,7 +6,10 @@ archive = $(TVARCHULA_LIB_DIR)/libtvarchula.a
 prefix = $(abspath $(PREFIX))
 version = $(shell sed -n 's/^.define TV_VERSION "\(.*\)"/\1/p' include/tvarchula.h)
 
-.PHONY: install uninstall
+.PHONY: usage install uninstall
+
+usage:
+	@echo 'make install [PREFIX=/usr/local] [DESTDIR=] [TVARCHULA_LIB_DIR=target/staticlib], and uninstall with the same'
 
 install:
 	@test -f '$(archive)' || { echo 'there is no $(archive): make it with `rt staticlib tvarchula`' >&2; exit 2; }

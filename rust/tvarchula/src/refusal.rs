@@ -95,7 +95,7 @@ impl fmt::Display for Refusal {
         f.write_str(match self {
             Refusal::Depth => {
                 "the depth is above 16, the upper level of a fold is not 1 to 16, \
-                 or the table's length is no power of two from 1 to 65536"
+                 or a length that tells the depth is no power of two from 1 to 65536"
             }
             Refusal::Rate => "the rate is not 2 to 16",
             Refusal::Length => "a slice has not its exact length",
