@@ -13,9 +13,10 @@ use crate::sizes::{block_len, message_len};
 #[derive(Clone, Copy, PartialEq, Eq, Debug)]
 #[non_exhaustive]
 pub struct Code<'a> {
-    /// The number of variables, 0 to 16. A message has 2^depth words.
+    /// The number of variables, 0 to [`MAX_DEPTH`](crate::MAX_DEPTH). A message has 2^depth words.
     pub depth: u32,
-    /// The words of a block for each word of a message, 2 to 16.
+    /// The words of a block for each word of a message, [`MIN_RATE`](crate::MIN_RATE) to
+    /// [`MAX_RATE`](crate::MAX_RATE).
     pub rate: u32,
     /// The base row: `rate` words, none of them 0.
     pub g: &'a [u32],
@@ -137,7 +138,7 @@ pub fn decode_vec(code: &Code<'_>, block: &[u32]) -> Result<Vec<u32>, Refusal> {
 /// Folds a block of a level to the one below. At place j that is the value at the challenge of the
 /// straight line through the block's words j and j + n, which stand at `t[j]` and `t2[j]`.
 ///
-/// `level` is the upper one, 1 to 16; `t`, `t2` and `folded` have the n words of the level below.
+/// `level` is the upper one, from 1; `t`, `t2` and `folded` have the n words of the level below.
 ///
 /// # Errors
 ///

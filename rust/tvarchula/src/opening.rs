@@ -128,6 +128,7 @@ pub fn write_opening_vec(
 /// # Ok(())
 /// # }
 /// ```
+#[must_use = "only `Ok` accepts the opening"]
 pub fn verify_opening(
     code: &Code<'_>,
     block: &[u32],

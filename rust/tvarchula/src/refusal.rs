@@ -5,6 +5,8 @@ use core::fmt;
 
 use tvarchula_sys as sys;
 
+use crate::sizes::{MAX_CLEARANCE, MAX_DEPTH, MAX_RATE, MAX_TABLE_LEN, MIN_RATE, MODULUS};
+
 /// Why a job refuses what it is lent. When several reasons apply, the one with the smallest number
 /// is given.
 ///
@@ -17,16 +19,17 @@ use tvarchula_sys as sys;
 #[derive(Clone, Copy, PartialEq, Eq, Hash, Debug)]
 #[non_exhaustive]
 pub enum Refusal {
-    /// 1: a depth above 16; for folding an upper level that is not 1 to 16; where a job finds the
-    /// depth from a length, one that is no power of two from 1 to 65536.
+    /// 1: a depth above [`MAX_DEPTH`]; for folding an upper level that is not 1 to [`MAX_DEPTH`];
+    /// where a job finds the depth from a length, one that is no power of two from 1 to
+    /// [`MAX_TABLE_LEN`].
     Depth,
-    /// 2: a rate that is not 2 to 16.
+    /// 2: a rate that is not [`MIN_RATE`] to [`MAX_RATE`].
     Rate,
     /// 3: a slice, result and work included, that has not its exact length. The length of the query
     /// list is judged by 7.
     Length,
-    /// 4: a word or single value that is read is [`MODULUS`](crate::MODULUS) or more. The words of
-    /// the query list are judged by 7.
+    /// 4: a word or single value that is read is [`MODULUS`] or more. The words of the query list are
+    /// judged by 7.
     Word,
     /// 5: a zero in the base row.
     BaseRow,
@@ -36,7 +39,7 @@ pub enum Refusal {
     Queries,
     /// 8: a well-formed block that is no codeword. Only decoding answers this.
     NoCodeword,
-    /// 9: a clearance outside -1073741823 to 1073741823.
+    /// 9: a clearance outside -[`MAX_CLEARANCE`] to [`MAX_CLEARANCE`].
     Clearance,
     /// The archive answered what this crate does not know: it is of another version. Nothing that
     /// such a call wrote or said may be used.
@@ -92,28 +95,29 @@ impl Refusal {
 
 impl fmt::Display for Refusal {
     fn fmt(&self, f: &mut fmt::Formatter<'_>) -> fmt::Result {
-        f.write_str(match self {
-            Refusal::Depth => {
-                "the depth is above 16, the upper level of a fold is not 1 to 16, \
-                 or a length that tells the depth is no power of two from 1 to 65536"
+        match self {
+            Refusal::Depth => write!(
+                f,
+                "the depth is above {MAX_DEPTH}, the upper level of a fold is not 1 to {MAX_DEPTH}, \
+                 or a length that tells the depth is no power of two from 1 to {MAX_TABLE_LEN}"
+            ),
+            Refusal::Rate => write!(f, "the rate is not {MIN_RATE} to {MAX_RATE}"),
+            Refusal::Length => f.write_str("a slice has not its exact length"),
+            Refusal::Word => write!(f, "a word is {MODULUS} or more"),
+            Refusal::BaseRow => f.write_str("there is a zero in the base row"),
+            Refusal::Diagonals => f.write_str("the two diagonals are equal in some place"),
+            Refusal::Queries => f.write_str(
+                "the query list is too short or too long, or one of its places is too large",
+            ),
+            Refusal::NoCodeword => f.write_str("the block is no codeword"),
+            Refusal::Clearance => {
+                write!(f, "a clearance is further than {MAX_CLEARANCE} micrometres from 0")
             }
-            Refusal::Rate => "the rate is not 2 to 16",
-            Refusal::Length => "a slice has not its exact length",
-            Refusal::Word => "a word is 2147483647 or more",
-            Refusal::BaseRow => "there is a zero in the base row",
-            Refusal::Diagonals => "the two diagonals are equal in some place",
-            Refusal::Queries => {
-                "the query list is too short or too long, or one of its places is too large"
-            }
-            Refusal::NoCodeword => "the block is no codeword",
-            Refusal::Clearance => "a clearance is outside -1073741823 to 1073741823 micrometres",
-            Refusal::Unknown { number, kind } => {
-                return write!(
-                    f,
-                    "libtvarchula.a is of another version: it answered {number}, kind {kind}"
-                )
-            }
-        })
+            Refusal::Unknown { number, kind } => write!(
+                f,
+                "libtvarchula.a is of another version: it answered {number}, kind {kind}"
+            ),
+        }
     }
 }
 
