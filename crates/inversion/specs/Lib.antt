@@ -1,0 +1,7 @@
+-- The inverses of T' - T in every c-th place.
+--     Inversion        what is lent, and THE INVERSES
+--     InversionLaws    what holds of differences of diagonals that differ, and of lists of words by their places
+--     Chains           what the inner loops hold
+pub mod Inversion
+pub mod InversionLaws
+pub mod Chains
