@@ -2,7 +2,7 @@
 ghost use mathlib.Core.Path.{_≡_};
 ghost use mathlib.Core.Bool.{_&&_};
 ghost use Prim.Native.Nat.{_^_};
-ghost use lib.ListN.{length};
+ghost use lib.ListN.{length, replicate};
 ghost use Rattle.job.specs.Outcome.{outcome};
 ghost use Rattle.residue.specs.Scans.{allSame};
 ghost use Rattle.parameters.specs.Lent.{codeword};
@@ -51,7 +51,15 @@ fn give(
     words::copy(&work[..n], out);
 }
 
-// Of exact lengths. The work buffer is cleared by the caller.
+// An answer, with the work buffer cleared.
+fn cleared(answer: Answer, work: &mut [u32]) -> Answer
+    ensures { λ r. ⌜ (r ≡ answer) × (now (work .exit) ≡ replicate (length (now (work .entry))) 0) ⌝ }
+{
+    words::clear(work);
+    answer
+}
+
+// Of exact lengths.
 fn settle(
     depth: u32,
     g: &[u32],
@@ -62,13 +70,13 @@ fn settle(
     work: &mut [u32],
 ) -> Answer
     requires { ⌜ (Decodes depth (now g) (now t) (now t2) (now block) (length (now work))) × (length (now out) ≡ 2 ^ depth) ⌝ }
-    ensures { λ r. ⌜ Settled depth (now (g .entry)) (now (t .entry)) (now (t2 .entry)) (now (block .entry)) (now (out .entry)) r (now (out .exit)) ⌝ }
+    ensures { λ r. ⌜ (Settled depth (now (g .entry)) (now (t .entry)) (now (t2 .entry)) (now (block .entry)) (now (out .entry)) r (now (out .exit))) × (now (work .exit) ≡ replicate (length (now (work .entry))) 0) ⌝ }
 {
     if !is_codeword(depth, g, t, t2, block, work) {
-        return Answer::Refused(Refusal::NoCodeword);
+        return cleared(Answer::Refused(Refusal::NoCodeword), work);
     }
     give(depth, g, t, t2, block, out, work);
-    Answer::Done
+    cleared(Answer::Done, work)
 }
 
 fn lengths_ok(
@@ -136,9 +144,7 @@ pub fn decode(
 {
     let answer = judge(depth, rate, g, t, t2, block, out.len(), work.len());
     if let Answer::Done = answer {
-        let settled = settle(depth, g, t, t2, block, out, work);
-        words::clear(work);
-        return settled;
+        return settle(depth, g, t, t2, block, out, work);
     }
     answer
 }
