@@ -27,8 +27,8 @@ use Rattle.residue.specs.ScanLaws.{all-below, none-zero, all-differ}
 use Rattle.parameters.specs.Lent.{lent}
 use Rattle.parameters.specs.Parameters.{limits, rowLengths, rowWords}
 use Rattle.parameters.specs.ParameterLaws.{within, row-lengths, lent-coding}
+use Rattle.undo.specs.Steps.{Decodes}
 use Rattle.decode.specs.Decoding.{decodeLengths, judgeDecoding, Settled, message, none, Decoded, refusal, settled}
-use Rattle.decode.specs.Steps.{Decodes}
 
 infixr 71 _⊛_
 open Vectors (vectors K) using (_⊛_)
