@@ -3,13 +3,13 @@ use mathlib.Core.Option.{Option, none, some}
 use Prim.Native.Nat.{ℕ}
 use Rattle.basefold.specs.Checks.{Check, sumCheck, finalCheck, baseCheck, foldCheck}
 use Rattle.job.specs.Outcome.{Outcome, refused, done, number}
-use Rattle.verify.specs.declared.Failure.{Failure}
-use Rattle.verify.specs.declared.Failure.the-variants.{Sum, Final, Base, Fold}
-use Rattle.verify.specs.declared.Outcome.{Outcome as Result}
-use Rattle.verify.specs.declared.Outcome.the-variants.{Accepted, Rejected, Refused}
-use Rattle.verify.specs.declared.Verdict.{Verdict}
-use Rattle.verify.specs.declared.Found.{Found}
-use Rattle.verify.specs.declared.Found.the-variants.{Nothing, First}
+use Rattle.verdict.specs.declared.Failure.{Failure}
+use Rattle.verdict.specs.declared.Failure.the-variants.{Sum, Final, Base, Fold}
+use Rattle.verdict.specs.declared.Outcome.{Outcome as Result}
+use Rattle.verdict.specs.declared.Outcome.the-variants.{Accepted, Rejected, Refused}
+use Rattle.verdict.specs.declared.Verdict.{Verdict}
+use Rattle.verdict.specs.declared.Found.{Found}
+use Rattle.verdict.specs.declared.Found.the-variants.{Nothing, First}
 
 -- a number, and the places that go with it
 abbrev pub Numbers : Type 0
