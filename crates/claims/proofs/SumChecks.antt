@@ -16,7 +16,7 @@ use Rattle.residue.specs.Residues.{P, F, K, Element, el, elem, word, half, Low,
 use Rattle.residue.specs.ResidueLaws.{is-low, stands}
 use Rattle.residue.specs.declared.Residue.{Residue}
 use Rattle.verdict.specs.Equality.{its-word, same-words}
-use Rattle.claims.specs.Steps.{RoundSent, ChallengeSent, SumsInput, SumsResult, ClaimsInput, LowClaim, after}
+use Rattle.claims.specs.Steps.{RoundSent, ChallengeSent, SumsInput, SumsResult, ClaimsInput, LowClaim, afterSums}
 use Rattle.claims.specs.declared.sums.Claimed.{Claimed}
 use Rattle.claims.specs.declared.sums.Claimed.the-variants.{Last, Fails}
 
@@ -67,12 +67,12 @@ module _ (d : ℕ) (y : Residue) (r o : List ℕ) (𝓘 : SumsInput d y r o) whe
   abbrev ρ : List Element
   ρ = elements 𝔽₁ r
 
-  pub left-none : SumsLeft d y r o d y
-  left-none = record { left = omega arith; low = 𝓘 .claim; first = λ z. refl }
+  pub sums-none : SumsLeft d y r o d y
+  sums-none = record { left = omega arith; low = 𝓘 .claim; first = λ z. refl }
 
-  pub left-end : (i : ℕ) (claim : Residue) → SumsLeft d y r o i claim → (0 < i → ⊥) → SumsResult d y r o (Last claim)
-  left-end zero claim 𝓢 h = record { low = 𝓢 .low; first = 𝓢 .first }
-  left-end (suc i) claim 𝓢 h = absurd (h (omega arith))
+  pub sums-end : (i : ℕ) (claim : Residue) → SumsLeft d y r o i claim → (0 < i → ⊥) → SumsResult d y r o (Last claim)
+  sums-end zero claim 𝓢 h = record { low = 𝓢 .low; first = 𝓢 .first }
+  sums-end (suc i) claim 𝓢 h = absurd (h (omega arith))
 
   module _ (i : ℕ) (claim : Residue) (𝓢 : SumsLeft d y r o i claim) (h : 0 < i) where
     pub round-sent : RoundSent d i o
@@ -106,20 +106,20 @@ module _ (d : ℕ) (y : Residue) (r o : List ℕ) (𝓘 : SumsInput d y r o) whe
               ((λ k. through K half (sent F O (deep k) (suc i) 0) (sent F O (deep k) (suc i) 1) (sent F O (deep k) (suc i) 2) (getD-elements 𝔽₁ r i k)) ∙ sym (stands _ en));
         }
 
-  pub left-fails : (i : ℕ) (claim : Residue) → SumsLeft d y r o i claim → 0 < i → same F (sent F O d i 0 ⊞ sent F O d i 1) (elem claim) ≡ false → SumsResult d y r o (Fails i)
-  left-fails zero claim 𝓢 h e = absurd (omega arith)
-  left-fails (suc i) claim 𝓢 h e = fails i claim 𝓢 e
+  pub sums-fails : (i : ℕ) (claim : Residue) → SumsLeft d y r o i claim → 0 < i → same F (sent F O d i 0 ⊞ sent F O d i 1) (elem claim) ≡ false → SumsResult d y r o (Fails i)
+  sums-fails zero claim 𝓢 h e = absurd (omega arith)
+  sums-fails (suc i) claim 𝓢 h e = fails i claim 𝓢 e
 
-  pub left-turn : (i : ℕ) (claim next : Residue) → SumsLeft d y r o i claim → 0 < i → same F (sent F O d i 0 ⊞ sent F O d i 1) (elem claim) ≡ true
+  pub sums-turn : (i : ℕ) (claim next : Residue) → SumsLeft d y r o i claim → 0 < i → same F (sent F O d i 0 ⊞ sent F O d i 1) (elem claim) ≡ true
       → next .0 ≡ word (through K half (sent F O d i 0) (sent F O d i 1) (sent F O d i 2) (el (getD r (i - 1) 0))) → SumsLeft d y r o (i - 1) next
-  left-turn zero claim next 𝓢 h e en = absurd (omega arith)
-  left-turn (suc i) claim next 𝓢 h e en = let one : suc i - 1 ≡ i = omega arith in rw one (turn i claim 𝓢 next e (rw one at en))
+  sums-turn zero claim next 𝓢 h e en = absurd (omega arith)
+  sums-turn (suc i) claim next 𝓢 h e en = let one : suc i - 1 ≡ i = omega arith in rw one (turn i claim 𝓢 next e (rw one at en))
 
-  -- the sums, by what their loop answers
-  pub result-is : (s : Claimed) → SumsResult d y r o s → (z : List Element) → after O z ρ s ≡ firstFailure (sums F 0 O z ρ (elem y))
+  -- the first failure of the sums and the final check, by what the loop of the sums answers
+  pub result-is : (s : Claimed) → SumsResult d y r o s → (z : List Element) → afterSums O z ρ s ≡ firstFailure (sums F 0 O z ρ (elem y))
   result-is s 𝓢 z = sym (ap (λ n. firstFailure (sumsFrom F 0 O z ρ n (elem y))) deep ∙ 𝓢 .first z)
 
--- with the claim that is left
+-- the final check is lent what the sums are, with the claim that they leave
 pub last-input : (d : ℕ) (y : Residue) (z r o : List ℕ) (s : Claimed) (w : Residue) → ClaimsInput d y z r o → s ≡ Last w → LowClaim s → ClaimsInput d w z r o
 last-input d y z r o s w 𝓒 e l =
     let 𝓘 = 𝓒 .sums in

@@ -33,16 +33,16 @@ pub record SumsInput (d : ℕ) (y : Residue) (r o : List ℕ) : Type 0 where
   pub long : finalAt d < length o
   pub opening : LowWords P o
 
--- and a point
+-- what the sums are lent, and a point
 pub record ClaimsInput (d : ℕ) (y : Residue) (z r o : List ℕ) : Type 0 where
   pub sums : SumsInput d y r o
   pub point : length z ≡ d
   pub low : LowWords P z
 
--- after all sums the final check decides; or sum i failed
-abbrev pub after : (o z r : List Element) → Claimed → Option Check
-after o z r (Last w) = firstFailure (sumsFrom F 0 o z r 0 (elem w))
-after o z r (Fails i) = some (sumCheck i)
+-- the first failure by the answer of the sums: sum i failed, or the final check decides
+abbrev pub afterSums : (o z r : List Element) → Claimed → Option Check
+afterSums o z r (Last w) = firstFailure (sumsFrom F 0 o z r 0 (elem w))
+afterSums o z r (Fails i) = some (sumCheck i)
 
 abbrev pub LowClaim : Claimed → Type 0
 LowClaim (Last w) = Low w
@@ -51,4 +51,4 @@ LowClaim (Fails i) = Unit {0}
 -- the answer s of the sums from the top one on, at every point
 pub record SumsResult (d : ℕ) (y : Residue) (r o : List ℕ) (s : Claimed) : Type 0 where
   pub low : LowClaim s
-  pub first : (z : List Element) → firstFailure (sumsFrom F 0 (elements 𝔽₁ o) z (elements 𝔽₁ r) d (elem y)) ≡ after (elements 𝔽₁ o) z (elements 𝔽₁ r) s
+  pub first : (z : List Element) → firstFailure (sumsFrom F 0 (elements 𝔽₁ o) z (elements 𝔽₁ r) d (elem y)) ≡ afterSums (elements 𝔽₁ o) z (elements 𝔽₁ r) s

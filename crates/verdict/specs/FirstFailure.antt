@@ -9,14 +9,14 @@ use Rattle.algebra.specs.Lists.{row}
 use Rattle.basefold.specs.Checks.{Check, firstFailure, first-append, first-holds, first-fails, first-none}
 
 -- a failure in the first part decides
-pub stops : {x : Check} (a b : List (Check × Bool)) → some x ≡ firstFailure a → some x ≡ firstFailure (a ++ b)
+pub append-fails : {x : Check} (a b : List (Check × Bool)) → some x ≡ firstFailure a → some x ≡ firstFailure (a ++ b)
 unfolding orElse
-stops a b e = sym (first-append a b ∙ ap (λ o. orElse o (firstFailure b)) (sym e))
+append-fails a b e = sym (first-append a b ∙ ap (λ o. orElse o (firstFailure b)) (sym e))
 
 -- where there is none, the second part decides
-pub goes : {x : Option Check} (a b : List (Check × Bool)) → none ≡ firstFailure a → x ≡ firstFailure b → x ≡ firstFailure (a ++ b)
+pub append-holds : {x : Option Check} (a b : List (Check × Bool)) → none ≡ firstFailure a → x ≡ firstFailure b → x ≡ firstFailure (a ++ b)
 unfolding orElse
-goes a b e f = f ∙ sym (first-append a b ∙ ap (λ o. orElse o (firstFailure b)) (sym e))
+append-holds a b e f = f ∙ sym (first-append a b ∙ ap (λ o. orElse o (firstFailure b)) (sym e))
 
 -- of a row of checks, the one that fails with those before it passed; none, where all pass
 pub row-fails : (n : ℕ) (f : ℕ → Check × Bool) (j : ℕ) → ((k : ℕ) → k < j → f k .1 ≡ true) → j < n → f j .1 ≡ false → firstFailure (row n f) ≡ some (f j .0)

@@ -44,9 +44,9 @@ asked-after d c g t t' l w q e f h k =
     by true false q = refl
     by false b q = refl
 
--- nothing is refused
+-- what is known where nothing is refused
 module _ (d c : ℕ) (g t t' w z : List ℕ) (y : ℕ) (r us o : List ℕ) (e : judgeVerifying d c g t t' w z y r us o ≡ done tt) where
-  record Held : Type 0 where
+  record TestsHold : Type 0 where
     depth : depthOk d ≡ true
     rate : rateOk c ≡ true
     lengths : openedLengths d c (length g) (length t) (length t') (length w) (length z) (length r) (length o) ≡ true
@@ -54,7 +54,7 @@ module _ (d c : ℕ) (g t t' w z : List ℕ) (y : ℕ) (r us o : List ℕ) (e : 
     row : legalRow g t t' ≡ done tt
     queries : queriesOk d c us ≡ true
 
-  tests-hold : Held
+  tests-hold : TestsHold
   unfolding judgeVerifying
   tests-hold =
       let L = openedLengths d c (length g) (length t) (length t') (length w) (length z) (length r) (length o) in
@@ -116,7 +116,7 @@ module _ (d c : ℕ) (g t t' w z : List ℕ) (y : ℕ) (r us o : List ℕ) (e : 
         queries = rw same at (query-places d c us (𝓗 .queries));
       }
 
--- a refusal, or the first failure
+-- what is due: a refusal, or the first failure
 module _ (d c : ℕ) (g t t' w z : List ℕ) (y : ℕ) (r us o : List ℕ) where
   pub refusal-due : {n : ℕ} → refused n ≡ judgeVerifying d c g t t' w z y r us o → refused n ≡ verification d c g t t' w z y r us o
   unfolding verification

@@ -10,7 +10,7 @@ use job::Refusal;
 use residue::Residue;
 use residue::scan;
 
-// Of the lengths of g, t, t2, block, z, r and opening.
+// Whether depth and rate are legal and g, t, t2, block, z, r and opening have the lengths that they give.
 fn lengths_ok(
     depth: u32,
     rate: u32,

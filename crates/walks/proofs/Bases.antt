@@ -35,7 +35,7 @@ module _ (v : Residue) (g b : List ℕ) (𝓑 : BaseInput v g b) (j m : ℕ) (h 
   pub base-fails : (m ≡ getD b j 0 → ⊥) → baseAt (elem v) g b j .1 ≡ false
   base-fails n = sym test-is ∙ ne-eqb _ _ (λ q. n (sym q))
 
--- v is read at n, and b is block 0
+-- what the base checks are lent: v, which is read at n, and b, which is block 0
 module _ (d : ℕ) (g t t' w r o b : List ℕ) (𝓞 : BlocksInput d g t t' w r o) (e : b ≡ blockOf (length g) 0 d w o 0) (v : Residue) (n : ℕ) (en : n ≡ finalAt d) (ev : v .0 ≡ getD o n 0) where
   value-is : v .0 ≡ getD o (finalAt d) 0
   value-is = ev ∙ ap (λ k. getD o k 0) en

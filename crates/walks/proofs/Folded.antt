@@ -26,7 +26,7 @@ use Rattle.verdict.specs.Equality.{same-other}
 use Rattle.walks.specs.Steps.{LinePoints, FoldAt, lineAt, BlocksInput, PlaceBelow}
 use Rattle.walks.proofs.ReadBlocks.{word-at, low-at, length-at}
 
--- by cross multiplication
+-- the test of a line by cross multiplication
 pub line-words : (a t t' x y b : Element) {p q s m n k : ℕ} → (t ≡ t' → ⊥) → p ≡ word (t' ⊟ t) → q ≡ word (b ⊟ x) → s ≡ word (el p ⊠ el q) → m ≡ word (a ⊟ t) → n ≡ word (y ⊟ x)
     → k ≡ word (el m ⊠ el n) → eqb s k ≡ same F (line F a t t' x y) b
 line-words a t t' x y b h ep eq es em en ek =

@@ -21,7 +21,7 @@ pub record BaseInput (v : Residue) (g b : List ℕ) : Type 0 where
   pub size : length b ≡ length g
   pub block : LowWords P b
 
--- base j
+-- base j, by the words
 abbrev pub baseAt : Element → List ℕ → List ℕ → ℕ → Check × Bool
 baseAt v g b j = (baseCheck j, same F (el (getD b j 0)) (v ⊠ el (getD g j 0)))
 
@@ -67,7 +67,7 @@ abbrev pub PlaceBelow : ℕ → ℕ → ℕ → Type 0
 PlaceBelow c zero u = Unit {0}
 PlaceBelow c (suc i) u = u < blockSize c i
 
--- each query is such a place below the top level, and each position fits a word
+-- each query is a place of the block below the top level, and each position in the list fits a word
 pub record QueryPlaces (c d : ℕ) (us : List ℕ) : Type 0 where
   pub few : length us ≤ 2 ^ 32
   pub start : (k : ℕ) → k < length us → PlaceBelow c d (getD us k 0)

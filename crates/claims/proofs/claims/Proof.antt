@@ -1,7 +1,7 @@
 use mathlib.Core.Path.{sym, ap, _∙_}
 use Rattle.algebra.specs.Words.{𝔽₁}
 use Rattle.algebra.specs.WordLists.{elements}
-use Rattle.claims.specs.Steps.{after}
+use Rattle.claims.specs.Steps.{afterSums}
 use Rattle.claims.proofs.SumChecks.{result-is, last-input}
 use borrow.Author.Needs.{needs}
 use Rattle.claims.proofs.claims.Statement.{statement}
@@ -26,14 +26,14 @@ returns : tie.Need-returns
 returns c =
     let s = c .before .before .before .before .before .before .before in
     let a = s .args in
-    ap (after (elements 𝔽₁ (a .opening .now)) (elements 𝔽₁ (a .z .now)) (elements 𝔽₁ (a .r .now))) (sym (c .before .i .given .1))
+    ap (afterSums (elements 𝔽₁ (a .opening .now)) (elements 𝔽₁ (a .z .now)) (elements 𝔽₁ (a .r .now))) (sym (c .before .i .given .1))
     ∙ result-is (a .depth) (a .y) (a .r .now) (a .opening .now) (s .pre .sums) _ (c .before .before .before .sums .ensures) (elements 𝔽₁ (a .z .now))
 
 returns-2 : tie.Need-returns-2
 returns-2 c =
     let s = c .before .before .before .before .before .before .before .before in
     let a = s .args in
-    c .last .ensures ∙ ap (after (elements 𝔽₁ (a .opening .now)) (elements 𝔽₁ (a .z .now)) (elements 𝔽₁ (a .r .now))) (sym (c .before .before .claim .given .1))
+    c .last .ensures ∙ ap (afterSums (elements 𝔽₁ (a .opening .now)) (elements 𝔽₁ (a .z .now)) (elements 𝔽₁ (a .r .now))) (sym (c .before .before .claim .given .1))
     ∙ result-is (a .depth) (a .y) (a .r .now) (a .opening .now) (s .pre .sums) _ (c .before .before .before .before .sums .ensures) (elements 𝔽₁ (a .z .now))
 
 pub claims-spec : {M : Type 1} → statement M

@@ -3,7 +3,7 @@ use native.Mathlib.Omega.{arith}
 use Rattle.basefold.specs.Layout.{openingSize, blockOf}
 use Rattle.basefold.specs.Checks.{firstFailure}
 use Rattle.verdict.specs.Verdicts.{found}
-use Rattle.verdict.specs.FirstFailure.{stops, goes}
+use Rattle.verdict.specs.FirstFailure.{append-fails, append-holds}
 use Rattle.walks.proofs.ReadBlocks.{opened-long}
 use Rattle.walks.proofs.Bases.{base-input, bases-are}
 use borrow.Author.Needs.{needs}
@@ -50,7 +50,7 @@ returns : tie.Need-returns
 returns c =
     let s = c .before .before .before .before .before .before .before .before .before .before .before .before .before .before .before in
     let a = s .args in
-    stops _ _ (ap found (sym (c .before .first .given .1)) ∙ c .before .before .before .bases .ensures
+    append-fails _ _ (ap found (sym (c .before .first .given .1)) ∙ c .before .before .before .bases .ensures
     ∙ ap firstFailure (bases-are (a .depth) (a .g .now) (a .t .now) (a .t2 .now) (a .block .now) (a .r .now) (a .opening .now) _ (s .pre .1) (c .before .before .before .before .level-block .ensures ∙ ap (λ n. blockOf n 0 (a .depth) (a .block .now) (a .opening .now) 0) (s .pre .0)) _ _ (c .before .before .before .before .before .before .before .final-at .ensures) (c .before .before .before .before .before .new .ensures)))
 
 enum-told : tie.Need-enum-told
@@ -63,7 +63,7 @@ returns-2 : tie.Need-returns-2
 returns-2 c =
     let s = c .before .before .before .before .before .before .before .before .before .before .before .before .before .before .before in
     let a = s .args in
-    goes _ _ (ap found (sym (c .before .enum-told .given .1)) ∙ c .before .before .before .bases .ensures
+    append-holds _ _ (ap found (sym (c .before .enum-told .given .1)) ∙ c .before .before .before .bases .ensures
     ∙ ap firstFailure (bases-are (a .depth) (a .g .now) (a .t .now) (a .t2 .now) (a .block .now) (a .r .now) (a .opening .now) _ (s .pre .1) (c .before .before .before .before .level-block .ensures ∙ ap (λ n. blockOf n 0 (a .depth) (a .block .now) (a .opening .now) 0) (s .pre .0)) _ _ (c .before .before .before .before .before .before .before .final-at .ensures) (c .before .before .before .before .before .new .ensures))) (c .folds .ensures)
 
 pub blocks-spec : {M : Type 1} → statement M

@@ -1,6 +1,6 @@
 use native.Mathlib.Omega.{arith}
 use Rattle.algebra.specs.Flags.{passes, fails}
-use Rattle.claims.proofs.SumChecks.{SumsLeft, left-none, left-end, left-fails, left-turn, round-sent, challenge-sent}
+use Rattle.claims.proofs.SumChecks.{SumsLeft, sums-none, sums-end, sums-fails, sums-turn, round-sent, challenge-sent}
 use Rattle.claims.proofs.sums.sums.Statement.{statement}
 use Rattle.claims.proofs.sums.sums.Tie as tie
 
@@ -11,7 +11,7 @@ abbrev μ-loop : tie.MeasureT-loop
 μ-loop depth r opening i₀ claim₀ i claim = i
 
 loop-holds : tie.Need-loop-holds Inv-loop μ-loop
-loop-holds c = let s = c .before .before in let a = s .args in left-none (a .depth) (a .y) (a .r .now) (a .opening .now) (s .pre)
+loop-holds c = let s = c .before .before in let a = s .args in sums-none (a .depth) (a .y) (a .r .now) (a .opening .now) (s .pre)
 
 sum-holds-requires : tie.Need-sum-holds-requires Inv-loop μ-loop
 sum-holds-requires c κs =
@@ -25,7 +25,7 @@ returns c =
     let s = c .before .before .before .before .before .before in
     let a = s .args in
     let l = c .before .before .before .loop in
-    left-fails (a .depth) (a .y) (a .r .now) (a .opening .now) (s .pre) (l .i) (l .claim) (l .inv) (c .before .before .loop-test .taken) (fails (c .before .sum-holds .ensures) (c .if1 .taken))
+    sums-fails (a .depth) (a .y) (a .r .now) (a .opening .now) (s .pre) (l .i) (l .claim) (l .inv) (c .before .before .loop-test .taken) (fails (c .before .sum-holds .ensures) (c .if1 .taken))
 
 next-claim-requires : tie.Need-next-claim-requires Inv-loop μ-loop
 next-claim-requires c κs =
@@ -47,14 +47,14 @@ loop-again c =
     let s = c .before .before .before .before .before .before .before in
     let a = s .args in
     let l = c .before .before .before .before .loop in
-    left-turn (a .depth) (a .y) (a .r .now) (a .opening .now) (s .pre) (l .i) (l .claim) _ (l .inv) (c .before .before .before .loop-test .taken) (passes (c .before .before .sum-holds .ensures) (c .before .if1 .left)) (c .next-claim .ensures)
+    sums-turn (a .depth) (a .y) (a .r .now) (a .opening .now) (s .pre) (l .i) (l .claim) _ (l .inv) (c .before .before .before .loop-test .taken) (passes (c .before .before .sum-holds .ensures) (c .before .if1 .left)) (c .next-claim .ensures)
 
 returns-2 : tie.Need-returns-2 Inv-loop μ-loop
 returns-2 c =
     let s = c .before .before .before .before in
     let a = s .args in
     let l = c .before .loop in
-    left-end (a .depth) (a .y) (a .r .now) (a .opening .now) (s .pre) (l .i) (l .claim) (l .inv) (λ h. omega arith)
+    sums-end (a .depth) (a .y) (a .r .now) (a .opening .now) (s .pre) (l .i) (l .claim) (l .inv) (λ h. omega arith)
 
 pub sums-spec : {M : Type 1} → statement M
 sums-spec =
