@@ -16,7 +16,7 @@ use Rattle.foldable.specs.Code.{encode}
 use Rattle.foldable.specs.Unique.{encode-word}
 use Rattle.basefold.specs.Layout.{finalAt, blockOf, carried}
 use Rattle.basefold.specs.Checks.{baseCheck, bases, same}
-use Rattle.residue.specs.Residues.{P, F, K, el, elem, word, _⊠_}
+use Rattle.residue.specs.Residues.{F, K, el, elem, word, _⊠_}
 use Rattle.residue.specs.declared.Residue.{Residue}
 use Rattle.parameters.specs.Lent.{lent}
 use Rattle.layout.specs.BlockLaws.{carried-is}
