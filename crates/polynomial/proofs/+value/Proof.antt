@@ -4,7 +4,8 @@ use lib.ListN.{length, length-take}
 use borrow.Author.Needs.{needs}
 use Rattle.residue.specs.Residues.{el, word, _⊞_, _⊠_}
 use Rattle.residue.specs.ResidueLaws.{is-low}
-use Rattle.polynomial.proofs.Values.{length-lower, one-word, left, right, joined}
+use Rattle.polynomial.specs.EvaluationLaws.{length-lower, left, right}
+use Rattle.polynomial.proofs.Values.{one-word, joined}
 use Prim.Native.Nat.{ℕ, _<_}
 use borrow.Fn.Kinds.{In}
 use borrow.Fn.PlainCycle.{Measures, is, falls, and}
