@@ -11,9 +11,9 @@ use Rattle.algebra.specs.Words.{𝔽₁}
 use Rattle.algebra.specs.WordLists.{elements, toWords, length-words, length-elements}
 use Rattle.residue.specs.declared.Residue.{Residue}
 use Rattle.residue.specs.Residues.{K, el}
-use Rattle.steps.specs.Steps.{Above, leftOf, TakeChallengeResult}
+use Rattle.steps.specs.Steps.{LeftAbove, leftOf, TakeChallengeResult}
 
-pub length-leftOf : (i a : ℕ) (s : List ℕ) → Above i s → length (toWords 𝔽₁ (leftOf i a s)) ≡ 2 ^ i
+pub length-leftOf : (i a : ℕ) (s : List ℕ) → LeftAbove i s → length (toWords 𝔽₁ (leftOf i a s)) ≡ 2 ^ i
 length-leftOf i a s 𝓐 =
     let E = elements 𝔽₁ (take (2 ^ suc i) s) in
     let n : length E ≡ 2 ^ i + 2 ^ i = length-elements 𝔽₁ _ ∙ length-take (2 ^ suc i) s ∙ omega (arith, 𝓐 .room, two-pow-succ i) in
@@ -21,6 +21,6 @@ length-leftOf i a s 𝓐 =
     ∙ length-mix K (2 ^ i) (take (2 ^ i) E) (el a) (drop (2 ^ i) E) (length-take (2 ^ i) E ∙ omega arith) (length-drop (2 ^ i) E ∙ omega arith)
 
 -- it stands in the front of the work buffer
-pub front-is : (i : ℕ) (w : Residue) (z r s : List ℕ) → Above i s → (v : Residue) (s' : List ℕ) → TakeChallengeResult i w z r s v s'
+pub front-is : (i : ℕ) (w : Residue) (z r s : List ℕ) → LeftAbove i s → (v : Residue) (s' : List ℕ) → TakeChallengeResult i w z r s v s'
     → take (2 ^ i) s' ≡ toWords 𝔽₁ (leftOf i (getD r i 0) s)
 front-is i w z r s 𝓐 v s' 𝓣 = ap (take (2 ^ i)) (𝓣 .left) ∙ take-at _ (drop (2 ^ i) s) (2 ^ i) (length-leftOf i (getD r i 0) s 𝓐)

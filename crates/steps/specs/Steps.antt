@@ -50,7 +50,7 @@ unfoldable pub foldedFront : Element → List ℕ → List ℕ
 foldedFront a m = toWords 𝔽₁ (foldMessage K (length m / 2) a (elements 𝔽₁ m)) ++ drop (length m / 2) m
 
 -- what is left above level i stands in the front of s
-pub record Above (i : ℕ) (s : List ℕ) : Type 0 where
+pub record LeftAbove (i : ℕ) (s : List ℕ) : Type 0 where
   pub room : 2 ^ suc i ≤ length s
   pub low : LowWords P (take (2 ^ suc i) s)
 
@@ -61,7 +61,7 @@ pub record GiveRoundInput (d i : ℕ) (w : Residue) (z : List ℕ) (n : ℕ) (s 
   pub point : length z ≡ d
   pub low : LowWords P z
   pub size : finalAt d ≤ n
-  pub above : Above i s
+  pub above : LeftAbove i s
 
 -- h_(i+1) as it is sent
 abbrev pub sentWords : ℕ → Residue → List ℕ → List ℕ → List ℕ
@@ -74,7 +74,7 @@ pub record TakeChallengeInput (i : ℕ) (w : Residue) (z r s : List ℕ) : Type 
   pub challenge : i < length r
   pub low : LowWords P z
   pub low' : LowWords P r
-  pub above : Above i s
+  pub above : LeftAbove i s
 
 -- what is left at level i once the challenge a is put in
 abbrev pub leftOf : ℕ → ℕ → List ℕ → List Element

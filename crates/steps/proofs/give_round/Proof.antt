@@ -1,6 +1,6 @@
 use native.Mathlib.Omega.{arith}
 use lib.ListN.{length-take}
-use Rattle.steps.proofs.Places.{message-within, round-end, send-input, round-given}
+use Rattle.steps.proofs.Places.{message-within, send-input, round-given}
 use borrow.Author.Needs.{needs}
 use Rattle.steps.proofs.give_round.Statement.{statement}
 use Rattle.steps.proofs.give_round.Tie as tie

@@ -9,6 +9,7 @@ use lib.Dec.{lit<}
 use lib.ListN.{length, take, drop, getD, set, length-append, length-take, length-drop, length-set, drop-of-length-le}
 use lib.Pow.{pow-mono}
 use lib.Seq.{getD-take, getD-drop, getD-set-same, getD-set-other, ext-getD}
+use Rattle.algebra.specs.Lists.{put}
 use Rattle.algebra.specs.Numerals.{num}
 use Rattle.algebra.specs.Order.{lt-or-ge}
 use Rattle.algebra.specs.Words.{𝔽₁}
@@ -17,27 +18,29 @@ use Rattle.basefold.specs.Layout.{blockAt, finalAt, openingSize}
 use Rattle.basefold.specs.Written.{opening}
 use Rattle.basefold.specs.Descent.{legal-at, block-below, descend-encode}
 use Rattle.basefold.specs.Rounds.{length-rounds, sent-is, carried-is}
-use Rattle.parameters.specs.Lent.{lent}
 use Rattle.foldable.specs.Code.{encode, size, Legal}
 use Rattle.foldable.specs.Encode.{length-encode}
+use Rattle.layout.specs.LayoutLaws.{block-end, block-within}
 use Rattle.multilinear.specs.Corners.{eq, eq-nil}
 use Rattle.multilinear.specs.Folding.{foldMessage, folded, folded-first, folded-last, folded-step, eq-step}
 use Rattle.multilinear.specs.Rounds.{h}
-use Rattle.residue.specs.Residues.{F, K, Element, el, word, _⊠_}
-use Rattle.residue.specs.ResidueLaws.{is-low}
-use Rattle.open.specs.Laws.{length-opening, h-left}
-use Rattle.algebra.specs.Lists.{put}
-use Rattle.open.specs.Steps.{alike, values, roundOf, leftOf, sentWords, blockWords, Running, Ran}
-use Rattle.open.specs.Writing.{openingWords, Writes}
-use Rattle.open.proofs.Places.{block-end, block-within}
-use Rattle.open.proofs.Takes.{length-leftOf, front-is}
-use Rattle.open.proofs.Puts.{Agrees, agrees-none, agrees-below, agrees-above, agrees-more, length-put}
-use Rattle.open.proofs.Sends.{element-is}
+use Rattle.parameters.specs.Lent.{lent, codeword}
+use Rattle.polynomial.specs.Eq.{factor}
+use Rattle.residue.specs.declared.Residue.{Residue}
+use Rattle.residue.specs.Residues.{F, K, Element, el, elem, word, _⊠_}
+use Rattle.residue.specs.ResidueLaws.{is-low, stands}
+use Rattle.steps.specs.Steps.{values, roundOf, leftOf, sentWords}
+use Rattle.steps.specs.StepLaws.{length-leftOf, front-is}
+use Rattle.steps.specs.SentLaws.{h-left}
+use Rattle.open.specs.Laws.{length-opening}
+use Rattle.open.specs.Rounds.{RoundInput, RoundResult}
+use Rattle.open.specs.Writing.{openingWords, WriteInput}
+use Rattle.open.proofs.Agreement.{Agrees, agrees-none, agrees-below, agrees-above, agrees-more, length-put}
 
 -- before the round from level i down: the weight, what is left, and the parts of the opening that are written
-pub record Going (d : ℕ) (g t t' m z r : List ℕ) (i w : ℕ) (o s : List ℕ) : Type 0 where
+pub record BeforeRound (d : ℕ) (g t t' m z r : List ℕ) (i : ℕ) (w : Residue) (o s : List ℕ) : Type 0 where
   pub level : i ≤ d
-  pub weight : w ≡ word (eq K (drop i (elements 𝔽₁ z)) (drop i (elements 𝔽₁ r)))
+  pub weight : w .0 ≡ word (eq K (drop i (elements 𝔽₁ z)) (drop i (elements 𝔽₁ r)))
   pub message : take (2 ^ i) s ≡ toWords 𝔽₁ (folded K 0 (elements 𝔽₁ m) (elements 𝔽₁ z) (elements 𝔽₁ r) i)
   pub room : length s ≡ 2 * 2 ^ d
   pub size : length o ≡ openingSize (length g) 0 d
@@ -50,7 +53,7 @@ values-at f (suc zero) l = refl
 values-at f (suc (suc zero)) l = refl
 values-at f (suc (suc (suc j))) l = absurd (omega arith)
 
-module _ (d : ℕ) (g t t' m z r : List ℕ) (n k : ℕ) (𝓦 : Writes d g t t' m z r n k) where
+module _ (d : ℕ) (g t t' m z r : List ℕ) (n k : ℕ) (𝓦 : WriteInput d g t t' m z r n k) where
   abbrev ms : List Element
   ms = elements 𝔽₁ m
 
@@ -90,7 +93,7 @@ module _ (d : ℕ) (g t t' m z r : List ℕ) (n k : ℕ) (𝓦 : Writes d g t t'
       getD-words 𝔽₁ O (3 * (d - suc i) + j)
       ∙ ap word (ap (λ e. getD O (3 * (e - suc i) + j) (K .𝟘)) (sym lr) ∙ sent-is F 0 ms zs rs (lent g t t') i j (omega (arith, lr)) b)
 
-  target-block : (i j : ℕ) → i < d → j < length g * 2 ^ i → getD target (blockAt (length g) 0 d i + j) 0 ≡ getD (blockWords i g t t' (left i)) j 0
+  target-block : (i j : ℕ) → i < d → j < length g * 2 ^ i → getD target (blockAt (length g) 0 d i + j) 0 ≡ getD (toWords 𝔽₁ (encode F (lent g t t') i (left i))) j 0
   target-block i j l b =
       let C = lent g t t' in
       let e = length rs in
@@ -120,12 +123,12 @@ module _ (d : ℕ) (g t t' m z r : List ℕ) (n k : ℕ) (𝓦 : Writes d g t t'
       ∙ ap (λ v. getD v 0 (K .𝟘)) (carried-is F 0 ms zs rs (lent g t t') ∙ sym (folded-last K 0 ms zs rs)))
 
   -- before the first round
-  pub going-first : (o s : List ℕ) → length o ≡ n → length s ≡ k → take (2 ^ d) s ≡ m → Going d g t t' m z r d 1 o s
-  going-first o s lo ls e =
+  pub before-first : (w : Residue) → w .0 ≡ 1 → (o s : List ℕ) → length o ≡ n → length s ≡ k → take (2 ^ d) s ≡ m → BeforeRound d g t t' m z r d w o s
+  before-first w one o s lo ls e =
       let none : 2 ^ d - 2 ^ d ≡ 0 = omega arith in
       record {
         level = omega arith;
-        weight = sym (ap word (ap (λ v. eq K v (drop d rs)) (drop-of-length-le zs {i = d} (omega (arith, lz))) ∙ eq-nil K (drop d rs) ∙ sym (𝔽₁ .words .el-one)) ∙ 𝔽₁ .words .val-el 1 (lit< tt));
+        weight = one ∙ sym (ap word (ap (λ v. eq K v (drop d rs)) (drop-of-length-le zs {i = d} (omega (arith, lz))) ∙ eq-nil K (drop d rs) ∙ sym (𝔽₁ .words .el-one)) ∙ 𝔽₁ .words .val-el 1 (lit< tt));
         message =
             e ∙ sym (words-elements 𝔽₁ m (𝓦 .message-low))
             ∙ ap (toWords 𝔽₁) (sym (folded-first K 0 ms zs rs (sized ∙ ap (λ i. 2 ^ i) (sym (zero-add (length rs))))) ∙ ap left lr);
@@ -136,8 +139,8 @@ module _ (d : ℕ) (g t t' m z r : List ℕ) (n k : ℕ) (𝓦 : Writes d g t t'
       }
 
   -- from level j = i + 1 to level i
-  module _ (i j w : ℕ) (q : j ≡ suc i) (o s : List ℕ) (𝓗 : Going d g t t' m z r j w o s) where
-    𝓖 : Going d g t t' m z r (suc i) w o s
+  module _ (i j : ℕ) (w : Residue) (q : j ≡ suc i) (o s : List ℕ) (𝓗 : BeforeRound d g t t' m z r j w o s) where
+    𝓖 : BeforeRound d g t t' m z r (suc i) w o s
     𝓖 = rw q at 𝓗
 
     below : i < d
@@ -146,8 +149,8 @@ module _ (d : ℕ) (g t t' m z r : List ℕ) (n k : ℕ) (𝓦 : Writes d g t t'
     up : 2 ^ suc i ≤ 2 * 2 ^ d
     up = omega (arith, pow-mono (𝓖 .level))
 
-    pub going-runs : Running d i w g t t' z r (length o) s
-    going-runs =
+    pub round-input : RoundInput d i w g t t' z r (length o) s
+    round-input =
         record {
           level = below;
           deep = 𝓦 .deep;
@@ -171,8 +174,8 @@ module _ (d : ℕ) (g t t' m z r : List ℕ) (n k : ℕ) (𝓦 : Writes d g t t'
         ∙ ap (λ e. foldMessage K (2 ^ e) (getD rs i (K .𝟘)) (left (suc i))) (sym (zero-add i))
         ∙ sym (folded-step K 0 ms zs rs i (omega (arith, lr, below)))
 
-    weight-is : el w ≡ eq K (drop (suc i) zs) (drop (suc i) rs)
-    weight-is = element-is (𝓖 .weight)
+    weight-is : elem w ≡ eq K (drop (suc i) zs) (drop (suc i) rs)
+    weight-is = stands _ (𝓖 .weight)
 
     sent-at : (j : ℕ) → j < 3 → getD (sentWords i w z s) j 0 ≡ getD target (3 * (d - suc i) + j) 0
     sent-at j l =
@@ -180,60 +183,67 @@ module _ (d : ℕ) (g t t' m z r : List ℕ) (n k : ℕ) (𝓦 : Writes d g t t'
         let ly : length (take (suc i) zs) ≡ suc i = length-take (suc i) zs ∙ omega (arith, lz, below) in
         getD-words 𝔽₁ _ j
         ∙ ap word
-        (values-at (roundOf (el w) (elements 𝔽₁ (take (2 ^ suc i) s)) (elements 𝔽₁ (take (suc i) z))) j l
+        (values-at (roundOf (elem w) (elements 𝔽₁ (take (2 ^ suc i) s)) (elements 𝔽₁ (take (suc i) z))) j l
         ∙ (λ x. roundOf (weight-is x) (above-is x) (elements-take 𝔽₁ (suc i) z x) X)
         ∙ ap (λ e. eq K (drop (suc i) zs) (drop (suc i) rs) ⊠ h K 0 (left (suc i)) (take (suc i) zs) [] e X) ly
         ∙ h-left K ms zs rs i X (omega (arith, lz, below)))
         ∙ sym (target-round i j below l)
 
-    abbrev block : List ℕ
-    block = blockWords i g t t' (leftOf i (getD r i 0) s)
-
-    length-block : length block ≡ length g * 2 ^ i
-    length-block =
-        length-words 𝔽₁ _
-        ∙ length-encode F (lent g t t') i (legal-at F (lent g t t') (length rs) i (omega (arith, lr, below)) legal) _
-        ∙ ap (λ a. a * 2 ^ i) (length-elements 𝔽₁ g)
-
-    weight-next : el w ⊠ alike (el (getD z i 0)) (el (getD r i 0)) ≡ eq K (drop i zs) (drop i rs)
+    weight-next : elem w ⊠ factor (el (getD z i 0)) (el (getD r i 0)) ≡ eq K (drop i zs) (drop i rs)
     weight-next =
-        let step : eq K (drop i zs) (drop i rs) ≡ alike (getD zs i (K .𝟘)) (getD rs i (K .𝟘)) ⊠ eq K (drop (suc i) zs) (drop (suc i) rs) =
+        let step : eq K (drop i zs) (drop i rs) ≡ factor (getD zs i (K .𝟘)) (getD rs i (K .𝟘)) ⊠ eq K (drop (suc i) zs) (drop (suc i) rs) =
         rw (zero-add i) at (eq-step K 0 ms zs rs i (omega (arith, lr, below)) (omega (arith, lz, below))) in
-        (λ x. weight-is x ⊠ alike (sym (getD-elements 𝔽₁ z i) x) (sym (getD-elements 𝔽₁ r i) x)) ∙ K .mul-comm _ _ ∙ sym step
+        (λ x. weight-is x ⊠ factor (sym (getD-elements 𝔽₁ z i) x) (sym (getD-elements 𝔽₁ r i) x)) ∙ K .mul-comm _ _ ∙ sym step
 
-    pub going-turn : (v : ℕ) (o' s' : List ℕ) → Ran d i w g t t' z r o s v o' s' → Going d g t t' m z r i v o' s'
-    going-turn v o' s' 𝓡 =
-        let a = 3 * (d - suc i) in
-        let xs = sentWords i w z s in
-        let o₁ = put a xs o in
-        let b = blockAt (length g) 0 d i in
-        let three : length xs ≡ 3 = length-words 𝔽₁ _ in
-        let l = below in
-        let fits : a + length xs ≤ length o = omega (arith, 𝓖 .size) in
-        let same : length o₁ ≡ length o = length-put a xs o fits in
-        let fits' : b + length block ≤ length o₁ = omega (arith, block-within (length g) d i below, length-block, 𝓖 .size) in
-        record {
-          level = omega arith;
-          weight = 𝓡 .taken .weight ∙ ap word weight-next;
-          message = front-is i w z r s (going-runs .above) v s' (𝓡 .taken) ∙ ap (toWords 𝔽₁) left-is;
-          room =
-              ap length (𝓡 .taken .left) ∙ length-append (toWords 𝔽₁ (leftOf i (getD r i 0) s)) (drop (2 ^ i) s)
-              ∙ omega (arith, length-leftOf i (getD r i 0) s (going-runs .above), length-drop (2 ^ i) s, 𝓖 .room, pow-mono below);
-          size = ap length (𝓡 .opened) ∙ length-put b block o₁ fits' ∙ same ∙ 𝓖 .size;
-          rounds =
-              rw (𝓡 .opened)
-              (agrees-below b block o₁ fits' (omega arith)
-              (agrees-more a xs o fits (3 * (d - i)) (omega arith) (𝓖 .rounds) (λ j q. sent-at j (omega arith))));
-          blocks =
-              rw (𝓡 .opened)
-              (agrees-more b block o₁ fits' (3 * d + 1 + length g * (2 ^ d - 2 ^ i)) (ap (λ e. b + e) length-block ∙ block-end (length g) d i below)
-              (agrees-above a xs o fits (omega arith) (𝓖 .blocks))
-              (λ j q. ap (λ M. getD (blockWords i g t t' M) j 0) left-is ∙ sym (target-block i j below (omega (arith, length-block)))));
-        }
+    module _ (v : Residue) (o' s' : List ℕ) (𝓡 : RoundResult d i w g t t' z r o s v o' s') where
+      front : take (2 ^ i) s' ≡ toWords 𝔽₁ (left i)
+      front = front-is i w z r s (round-input .above) v s' (𝓡 .taken) ∙ ap (toWords 𝔽₁) left-is
+
+      abbrev block : List ℕ
+      block = codeword i g t t' (take (2 ^ i) s')
+
+      block-is : block ≡ toWords 𝔽₁ (encode F (lent g t t') i (left i))
+      block-is = ap (λ M. toWords 𝔽₁ (encode F (lent g t t') i M)) (ap (elements 𝔽₁) front ∙ elements-words 𝔽₁ (left i))
+
+      length-block : length block ≡ length g * 2 ^ i
+      length-block =
+          length-words 𝔽₁ _
+          ∙ length-encode F (lent g t t') i (legal-at F (lent g t t') (length rs) i (omega (arith, lr, below)) legal) _
+          ∙ ap (λ a. a * 2 ^ i) (length-elements 𝔽₁ g)
+
+      pub before-next : BeforeRound d g t t' m z r i v o' s'
+      before-next =
+          let a = 3 * (d - suc i) in
+          let xs = sentWords i w z s in
+          let o₁ = put a xs o in
+          let b = blockAt (length g) 0 d i in
+          let three : length xs ≡ 3 = length-words 𝔽₁ _ in
+          let l = below in
+          let fits : a + length xs ≤ length o = omega (arith, 𝓖 .size) in
+          let same : length o₁ ≡ length o = length-put a xs o fits in
+          let fits' : b + length block ≤ length o₁ = omega (arith, block-within (length g) d i below, length-block, 𝓖 .size) in
+          record {
+            level = omega arith;
+            weight = 𝓡 .taken .weight ∙ ap word weight-next;
+            message = front;
+            room =
+                ap length (𝓡 .taken .left) ∙ length-append (toWords 𝔽₁ (leftOf i (getD r i 0) s)) (drop (2 ^ i) s)
+                ∙ omega (arith, length-leftOf i (getD r i 0) s (round-input .above), length-drop (2 ^ i) s, 𝓖 .room, pow-mono below);
+            size = ap length (𝓡 .opened) ∙ length-put b block o₁ fits' ∙ same ∙ 𝓖 .size;
+            rounds =
+                rw (𝓡 .opened)
+                (agrees-below b block o₁ fits' (omega arith)
+                (agrees-more a xs o fits (3 * (d - i)) (omega arith) (𝓖 .rounds) (λ j q. sent-at j (omega arith))));
+            blocks =
+                rw (𝓡 .opened)
+                (agrees-more b block o₁ fits' (3 * d + 1 + length g * (2 ^ d - 2 ^ i)) (ap (λ e. b + e) length-block ∙ block-end (length g) d i below)
+                (agrees-above a xs o fits (omega arith) (𝓖 .blocks))
+                (λ j q. ap (λ M. getD M j 0) block-is ∙ sym (target-block i j below (omega (arith, length-block)))));
+          }
 
   -- after the last round
-  pub going-end : (i w : ℕ) → i ≡ 0 → (o s : List ℕ) → Going d g t t' m z r i w o s → set o (finalAt d) (getD s 0 0) ≡ target
-  going-end i w none o s 𝓗 =
+  pub after-last : (i : ℕ) (w : Residue) → i ≡ 0 → (o s : List ℕ) → BeforeRound d g t t' m z r i w o s → set o (finalAt d) (getD s 0 0) ≡ target
+  after-last i w none o s 𝓗 =
       let v = getD s 0 0 in
       let lo = 𝓖 .size in
       ext-getD 0 (set o (3 * d) v) target (length-set o (3 * d) v ∙ lo ∙ sym length-target)
@@ -243,7 +253,7 @@ module _ (d : ℕ) (g t t' m z r : List ℕ) (n k : ℕ) (𝓦 : Writes d g t t'
       (λ b. ⊎-elim (λ c. last j (omega arith) (omega arith)) (λ c. getD-set-other o (3 * d) j v 0 (λ q. omega arith) ∙ 𝓖 .blocks .at j (omega arith) (omega arith)) (lt-or-ge j (3 * d + 1)))
       (lt-or-ge j (3 * d)))
     where
-      𝓖 : Going d g t t' m z r 0 w o s
+      𝓖 : BeforeRound d g t t' m z r 0 w o s
       𝓖 = rw none at 𝓗
 
       last : (j : ℕ) → j ≡ 3 * d → j < length o → getD (set o (3 * d) (getD s 0 0)) j 0 ≡ getD target j 0

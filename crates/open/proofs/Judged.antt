@@ -1,5 +1,5 @@
 -- What is known once an opening may be written, and what its parts are lent. Assumes nothing.
-use mathlib.Core.Path.{_≡_, refl, sym, ap, _∙_}
+use mathlib.Core.Path.{_≡_, sym, ap, _∙_}
 use mathlib.Core.Bool.{_&&_}
 use mathlib.Core.List.{List, _++_}
 use Prim.Native.Nat.{ℕ, _^_, _<_}
@@ -12,7 +12,7 @@ use borrow.Author.Tests.{eqb-true, leb-true}
 use Rattle.algebra.specs.Tests.{and-both}
 use Rattle.algebra.specs.WordLists.{Low}
 use Rattle.basefold.specs.Layout.{finalAt, openingSize}
-use Rattle.job.specs.Outcome.{Outcome, refused, done, _⨾_}
+use Rattle.job.specs.Outcome.{done}
 use Rattle.job.specs.OutcomeLaws.{require-done, both}
 use Rattle.job.specs.LimitLaws.{rate-most}
 use Rattle.polynomial.specs.Evaluation.{Evaluates}
@@ -21,20 +21,15 @@ use Rattle.residue.specs.Scans.{allBelow}
 use Rattle.residue.specs.ScanLaws.{all-below}
 use Rattle.parameters.specs.Parameters.{limits, rowLengths, rowWords}
 use Rattle.parameters.specs.ParameterLaws.{within, row-lengths, lent-coding}
-use Rattle.open.specs.Writing.{inputLengths, bufferLengths, writeLengths, inputWords, judgeWriting, Writes}
-
--- the first of two outcomes, where both are done
-first-done : {B : Type 0} (o : Outcome (Unit {0})) (next : Outcome B) {b : B} → o ⨾ next ≡ done b → done tt ≡ o
-first-done (refused n) next e = absurd (let z : _≡_ {A = ℕ} 0 1 = cc in omega arith)
-first-done (done a) next e = refl
+use Rattle.open.specs.Writing.{inputLengths, bufferLengths, writeLengths, inputWords, judgeWriting, WriteInput}
 
 -- the job's tests have passed
-pub writes : (d c : ℕ) (g t t' m z r : List ℕ) (o s : ℕ) → judgeWriting d c g t t' m z r o s ≡ done tt → Writes d g t t' m z r o s
+pub write-input : (d c : ℕ) (g t t' m z r : List ℕ) (o s : ℕ) → judgeWriting d c g t t' m z r o s ≡ done tt → WriteInput d g t t' m z r o s
 unfolding judgeWriting writeLengths inputLengths bufferLengths inputWords
-writes d c g t t' m z r o s e =
-    let i = within d c (first-done (limits d c) _ e) in
-    let a = both (limits d c) e .1 in
-    let b = require-done (writeLengths d c (length g) (length t) (length t') (length m) (length z) (length r) o s) 3 a in
+write-input d c g t t' m z r o s e =
+    let f = both (limits d c) e in
+    let i = within d c (sym (f .0)) in
+    let b = require-done (writeLengths d c (length g) (length t) (length t') (length m) (length z) (length r) o s) 3 (f .1) in
     let k = require-done (rowWords g t t' && inputWords m z r) 4 (b .1) in
     let l = and-both (rowLengths d c (length g) (length t) (length t')) _ (b .0) in
     let n = and-both (inputLengths d (length m) (length z) (length r)) _ (l .1) in
@@ -59,15 +54,15 @@ writes d c g t t' m z r o s e =
       room = eqb-true _ _ (u .1);
     }
 
-module _ (d : ℕ) (g t t' m z r : List ℕ) (o s : ℕ) (𝓦 : Writes d g t t' m z r o s) where
-  pub evaluating : (y : List ℕ) → length y ≡ d → Low P y → Evaluates m y
-  evaluating y e l = record { size = 𝓦 .message ∙ ap (λ k. 2 ^ k) (sym e); message = 𝓦 .message-low; point = l }
+module _ (d : ℕ) (g t t' m z r : List ℕ) (o s : ℕ) (𝓦 : WriteInput d g t t' m z r o s) where
+  pub value-input : (y : List ℕ) → length y ≡ d → Low P y → Evaluates m y
+  value-input y e l = record { size = 𝓦 .message ∙ ap (λ k. 2 ^ k) (sym e); message = 𝓦 .message-low; point = l }
 
   pub begun : (old work : List ℕ) → work ≡ m ++ drop (length m) old → take (2 ^ d) work ≡ m
   begun old work e = ap (take (2 ^ d)) e ∙ take-at m (drop (length m) old) (2 ^ d) (𝓦 .message)
 
-  pub going : (old work : List ℕ) (n k : ℕ) → work ≡ m ++ drop (length m) old → n ≡ o → k ≡ s → Writes d g t t' (take (2 ^ d) work) z r n k
-  going old work n k e p q = rw (begun old work e, p, q) 𝓦
+  pub rounds-input : (old work : List ℕ) (n k : ℕ) → work ≡ m ++ drop (length m) old → n ≡ o → k ≡ s → WriteInput d g t t' (take (2 ^ d) work) z r n k
+  rounds-input old work n k e p q = rw (begun old work e, p, q) 𝓦
 
   pub final-within : (n k : ℕ) → n ≡ o → k ≡ s → (finalAt d < n) × (0 < k)
   final-within n k p q = (omega (arith, 𝓦 .opens), omega (arith, 𝓦 .room, pow-pos d))
