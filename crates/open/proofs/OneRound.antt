@@ -14,20 +14,21 @@ use Rattle.steps.specs.Steps.{sentWords, TakeChallengeResult, GiveBlockInput}
 use Rattle.steps.specs.StepLaws.{length-leftOf, front-is}
 use Rattle.open.specs.Rounds.{RoundInput, RoundResult}
 
-module _ (d i : ℕ) (w : Residue) (g t t' z r : List ℕ) (n : ℕ) (s : List ℕ) (𝓡 : RoundInput d i w g t t' z r n s) (v : Residue) (s' : List ℕ) (𝓣 : TakeChallengeResult i w z r s v s') where
-  pub block-input : (k : ℕ) → k ≡ n → GiveBlockInput d i g t t' k s'
-  block-input k e =
-      let front = front-is i w z r s (𝓡 .above) v s' 𝓣 in
-      record {
-        level = 𝓡 .level;
-        deep = 𝓡 .deep;
-        wide = 𝓡 .wide;
-        coding = 𝓡 .coding;
-        size = e ∙ 𝓡 .size;
-        room = omega (arith, ap length front ∙ length-leftOf i (getD r i 0) s (𝓡 .above), length-take (2 ^ i) s');
-        low = rw front (low-words 𝔽₁ _);
-      }
+-- whichever challenge was taken
+pub block-input : (d i : ℕ) (w : Residue) (g t t' y u : List ℕ) (n : ℕ) (s : List ℕ) → RoundInput d i w g t t' y u n s → (z r : List ℕ) (v : Residue) (s' : List ℕ) → TakeChallengeResult i w z r s v s' → (k : ℕ) → k ≡ n
+    → GiveBlockInput d i g t t' k s'
+block-input d i w g t t' y u n s 𝓡 z r v s' 𝓣 k e =
+    let front = front-is i w z r s (𝓡 .above) v s' 𝓣 in
+    record {
+      level = 𝓡 .level;
+      deep = 𝓡 .deep;
+      wide = 𝓡 .wide;
+      coding = 𝓡 .coding;
+      size = e ∙ 𝓡 .size;
+      room = omega (arith, ap length front ∙ length-leftOf i (getD r i 0) s (𝓡 .above), length-take (2 ^ i) s');
+      low = rw front (low-words 𝔽₁ _);
+    }
 
-  pub round-result : (o o₁ o' : List ℕ) → o₁ ≡ put (roundAt d (suc i)) (sentWords i w z s) o → o' ≡ put (blockAt (length g) 0 d i) (codeword i g t t' (take (2 ^ i) s')) o₁
-      → RoundResult d i w g t t' z r o s v o' s'
-  round-result o o₁ o' p q = record { taken = 𝓣; opened = q ∙ ap (put (blockAt (length g) 0 d i) (codeword i g t t' (take (2 ^ i) s'))) p }
+pub round-result : (d i : ℕ) (w : Residue) (g t t' z r s : List ℕ) (v : Residue) (s' : List ℕ) → TakeChallengeResult i w z r s v s' → (o o₁ o' : List ℕ) → o₁ ≡ put (roundAt d (suc i)) (sentWords i w z s) o
+    → o' ≡ put (blockAt (length g) 0 d i) (codeword i g t t' (take (2 ^ i) s')) o₁ → RoundResult d i w g t t' z r o s v o' s'
+round-result d i w g t t' z r s v s' 𝓣 o o₁ o' p q = record { taken = 𝓣; opened = q ∙ ap (put (blockAt (length g) 0 d i) (codeword i g t t' (take (2 ^ i) s'))) p }
