@@ -1,17 +1,18 @@
--- The block of a level: where it lies, its length and its words. Assumes nothing.
+-- The block of a level: where it lies, its length and its words; and the one word v. Assumes nothing.
 use mathlib.Core.Path.{_≡_, refl, sym, ap, ap₂, _∙_}
 use mathlib.Core.Bool.{Bool, true, false}
-use mathlib.Core.List.{List}
+use mathlib.Core.List.{List, [], _∷_}
 use Prim.Native.Nat.{ℕ, _+_, _*_, _-_, _^_, _≤_, _<_}
 use native.Mathlib.Omega.{arith}
 use lib.Dec.{ltb}
 use lib.ListN.{length, getD, take, drop, length-take, length-drop}
+use lib.Seq.{drop-cons}
 use borrow.Author.Tests.{ltb-true, ltb-false, lt-ltb, le-ltb}
 use Rattle.algebra.specs.Words.{𝔽₁}
-use Rattle.algebra.specs.WordLists.{Low, low-take, low-drop, elements, elements-take, elements-drop, getD-elements}
+use Rattle.algebra.specs.WordLists.{Low, low-take, low-drop, elements, elements-take, elements-drop, length-elements, getD-elements}
 use Rattle.job.specs.Limits.{blockSize}
-use Rattle.basefold.specs.Layout.{either, either-true, either-false, blockAt, blockOf, openingSize}
-use Rattle.residue.specs.Residues.{P, K, el}
+use Rattle.basefold.specs.Layout.{either, either-true, either-false, finalAt, blockAt, blockOf, openingSize, carried}
+use Rattle.residue.specs.Residues.{P, F, K, el}
 use Rattle.layout.specs.LayoutLaws.{block-within}
 
 -- of the top level, and of a lower one
@@ -67,3 +68,10 @@ module _ (c d : ℕ) (w o : List ℕ) where
           let l = ltb-false i d e in
           let same : d ≡ i = omega arith in
           lw ∙ ap (λ k. c * 2 ^ k) same
+
+-- what an opening carries is the one word v
+pub carried-is : (d : ℕ) (r o : List ℕ) → length r ≡ d → finalAt d < length o → carried F 0 (elements 𝔽₁ o) (length (elements 𝔽₁ r)) ≡ el (getD o (finalAt d) 0) ∷ []
+carried-is d r o e h =
+    let l = length-elements 𝔽₁ o in
+    ap (λ n. carried F 0 (elements 𝔽₁ o) n) (length-elements 𝔽₁ r ∙ e)
+    ∙ ap (take 1) (drop-cons (elements 𝔽₁ o) (3 * d) (K .𝟘) (omega arith)) ∙ ap (λ a. a ∷ []) (getD-elements 𝔽₁ o (3 * d))

@@ -8,7 +8,7 @@ use job::Answer;
 use job::Refusal;
 use residue::scan;
 
-fn in_limits(depth: u32, rate: u32) -> bool
+pub fn in_limits(depth: u32, rate: u32) -> bool
     ensures { λ r. ⌜ r ≡ inLimits depth rate ⌝ }
 {
     if !job::depth_ok(depth) {
