@@ -4,7 +4,8 @@ use lib.ListN.{length, length-take}
 use borrow.Author.Needs.{needs}
 use Rattle.residue.specs.Residues.{el, word, _⊞_, _⊠_}
 use Rattle.residue.specs.ResidueLaws.{is-low}
-use Rattle.polynomial.proofs.Values.{length-lower, one-word, left, right, joined}
+use Rattle.polynomial.specs.EvaluationLaws.{length-lower, left, right}
+use Rattle.polynomial.proofs.Values.{one-word, joined}
 use Prim.Native.Nat.{ℕ, _<_}
 use borrow.Fn.Kinds.{In}
 use borrow.Fn.PlainCycle.{Measures, is, falls, and}
@@ -90,7 +91,7 @@ value-new-requires-2 : (t : ℕ) → value-lts.Need-new-requires-2 (rs t) (value
 value-new-requires-2 t c κs = c .before .before .before .before .before .before .before .before .before .before .before .pre .1 .point .low _ (omega arith)
 
 value-plus-product-requires : (t : ℕ) → value-lts.Need-plus-product-requires (rs t) (value-at t) value.Post
-value-plus-product-requires t c κs = (is-low _ (c .before .before .before .before .before .value .ensures), rw (c .new2 .ensures) (c .before .before .before .before .before .before .before .before .before .before .before .before .pre .1 .point .low _ (omega arith)), is-low _ (c .before .before .value2 .ensures))
+value-plus-product-requires t c κs = (omega (arith, is-low _ (c .before .before .before .before .before .value .ensures)), rw (c .new2 .ensures) (c .before .before .before .before .before .before .before .before .before .before .before .before .pre .1 .point .low _ (omega arith)), omega (arith, is-low _ (c .before .before .value2 .ensures)))
 
 value-returns-3 : (t : ℕ) → value-lts.Need-returns-3 (rs t) (value-at t) value.Post
 value-returns-3 t c =

@@ -1,7 +1,6 @@
 use mathlib.Core.Path.{sym}
 use borrow.Author.Tests.{eq-eqb, ne-eqb}
 use Rattle.polynomial.specs.Evaluation.{evaluateLengths}
-use Rattle.polynomial.proofs.Values.{left}
 use borrow.Author.Needs.{needs}
 use Rattle.polynomial.proofs.lengths_ok.Statement.{statement}
 use Rattle.polynomial.proofs.lengths_ok.Tie as tie
