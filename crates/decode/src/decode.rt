@@ -59,7 +59,7 @@ fn cleared(answer: Answer, work: &mut [u32]) -> Answer
     answer
 }
 
-// Of exact lengths.
+// The answer where no refusal from 1 to 6 is due: the message in out, or 8.
 fn settle(
     depth: u32,
     g: &[u32],

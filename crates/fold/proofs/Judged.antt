@@ -101,16 +101,16 @@ module _ (level rate : ℕ) (t t2 block : List ℕ) (a out : ℕ) where
       by true true true true true = refl
 
   -- what holds where no refusal is due
-  pub record Unrefused : Type 0 where
+  pub record NoRefusalDue : Type 0 where
     pub diagonals : Diagonals 1 out t t2
     pub whole : length block ≡ out + out
     pub low : Low P block
     pub challenge : a < P
     pub size : out ≡ blockSize rate (level - 1)
 
-  pub unrefused : judgeFolding level rate t t2 block a out ≡ done tt → Unrefused
+  pub no-refusal-due : judgeFolding level rate t t2 block a out ≡ done tt → NoRefusalDue
   unfolding judgeFolding wordsOk
-  unrefused e =
+  no-refusal-due e =
       let level-passes = require-done (levelOk level) 1 e in
       let rate-passes = require-done (rateOk rate) 2 (level-passes .1) in
       let lengths-pass = require-done (lengthsOk level rate (length t) (length t2) (length block) out) 3 (rate-passes .1) in

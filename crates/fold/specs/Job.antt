@@ -1,4 +1,4 @@
--- The job of folding a block by one level: its refusals, its answer and what it writes, for every input. Assumes nothing.
+-- The job of folding a block by one level: its refusals, its answer and what it writes, for every input. Definitions only. Assumes nothing.
 use mathlib.Core.Path.{_≡_}
 use mathlib.Core.Bool.{Bool, _&&_}
 use mathlib.Core.List.{List}

@@ -35,7 +35,7 @@ fn limits_ok(level: u32, rate: u32) -> bool
     job::rate_ok(rate)
 }
 
-// By the numbers of words lent, where level and rate are legal.
+// Whether level and rate are legal and the slices have the lengths that they give.
 fn lengths_ok(level: u32, rate: u32, t: usize, t2: usize, block: usize, out: usize) -> bool
     ensures { λ r. ⌜ r ≡ (foldLimits level rate && lengthsOk level rate t t2 block out) ⌝ }
 {
@@ -55,7 +55,7 @@ fn lengths_ok(level: u32, rate: u32, t: usize, t2: usize, block: usize, out: usi
     out == n
 }
 
-// Where the lengths are right.
+// Whether all words are below the modulus, where the lengths are right.
 fn words_ok(lengths: bool, t: &[u32], t2: &[u32], block: &[u32], challenge: u32) -> bool
     ensures { λ r. ⌜ r ≡ (lengths && wordsOk (now (t .entry)) (now (t2 .entry)) (now (block .entry)) challenge) ⌝ }
 {
@@ -68,7 +68,7 @@ fn words_ok(lengths: bool, t: &[u32], t2: &[u32], block: &[u32], challenge: u32)
     challenge < Residue::MODULUS
 }
 
-// Where all words are below the modulus.
+// Whether T and T' differ in every place, where all words are below the modulus.
 fn diagonals_ok(words: bool, t: &[u32], t2: &[u32]) -> bool
     ensures { λ r. ⌜ r ≡ (words && allDiffer (now (t .entry)) (now (t2 .entry))) ⌝ }
 {

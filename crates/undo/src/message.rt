@@ -22,7 +22,7 @@ fn prepare(depth: u32, g: &[u32], t: &[u32], t2: &[u32], block: &[u32], work: &m
     inversion::invert_gaps(c, t, t2, &mut work[n..e]);
 }
 
-// In front of work.
+// The message, in front of work.
 pub fn message_of(depth: u32, g: &[u32], t: &[u32], t2: &[u32], block: &[u32], work: &mut [u32])
     requires { ⌜ Decodes depth (now g) (now t) (now t2) (now block) (length (now work)) ⌝ }
     ensures { λ _. ⌜ take (2 ^ depth) (now (work .exit)) ≡ decoded depth (now (g .entry)) (now (t .entry)) (now (t2 .entry)) (now (block .entry)) ⌝ }

@@ -3,7 +3,7 @@ use lib.ListN.{length}
 use Rattle.job.specs.Outcome.{done, outcome}
 use Rattle.job.specs.OutcomeLaws.{kept-done, kept-refused}
 use Rattle.fold.specs.Job.{judgeFolding, foldWords}
-use Rattle.fold.proofs.Judged.{unrefused}
+use Rattle.fold.proofs.Judged.{no-refusal-due}
 use borrow.Author.Needs.{needs}
 use Rattle.fold.proofs.fold.Statement.{statement}
 use Rattle.fold.proofs.fold.Tie as tie
@@ -19,11 +19,11 @@ passed : (c : tie.After-enum-told) → (let a = c .before .before .before .befor
 passed c = sym (c .before .before .judge .ensures) ∙ ap outcome (c .enum-told .given .1)
 
 new-requires : tie.Need-new-requires
-new-requires c κs = unrefused _ _ _ _ _ _ _ (passed c) .challenge
+new-requires c κs = no-refusal-due _ _ _ _ _ _ _ (passed c) .challenge
 
 fold-block-requires : tie.Need-fold-block-requires
 fold-block-requires c κs =
-    let u = unrefused _ _ _ _ _ _ _ (passed (c .before .before)) in
+    let u = no-refusal-due _ _ _ _ _ _ _ (passed (c .before .before)) in
     (u .diagonals, u .whole, u .low, rw (c .before .new .ensures) (u .challenge))
 
 enum-told-2 : tie.Need-enum-told-2
@@ -36,7 +36,7 @@ returns : tie.Need-returns
 returns c =
     let a = c .before .before .before .before .before .before .before .before .before .before .before .before .args in
     let e = passed (c .before .before .before .before .before) in
-    let u = unrefused _ _ _ _ _ _ _ e in
+    let u = no-refusal-due _ _ _ _ _ _ _ e in
     record {
       answer = c .before .before .before .before .before .before .before .judge .ensures;
       result = kept-done (a .out .now) e (c .before .before .fold-block .ensures ∙ (λ k. foldWords (u .size k) (a .t .now) (a .t2 .now) (a .block .now) (c .before .before .before .before .new .ensures k)));

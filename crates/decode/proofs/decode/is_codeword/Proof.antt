@@ -1,4 +1,4 @@
-use mathlib.Core.Path.{ap, _∙_}
+use mathlib.Core.Path.{_≡_, ap, _∙_}
 use borrow.Author.Needs.{needs}
 use Rattle.residue.specs.Scans.{allSame}
 use Rattle.parameters.specs.Lent.{codeword}
@@ -22,7 +22,10 @@ same-length c =
 
 returns : tie.Need-returns
 returns c =
-    let s = c .before .before .before .before .before .before .before .before .before .before .before .before .before .before .before in let a = s .args in c .all-same .ensures ∙ ap (λ v. allSame v (a .block .now)) (c .before .before .before .before .encode-again .ensures ∙ ap (codeword (a .depth) (a .g .now) (a .t .now) (a .t2 .now)) (c .before .before .before .before .before .before .before .before .message-of .ensures))
+    let a = c .before .before .before .before .before .before .before .before .before .before .before .before .before .before .before .args in
+    let again = c .before .before .before .before .encode-again in
+    let told : c .all-same .result ≡ allSame (again .last .1 .1 .1 .1 .0) (a .block .now) = c .all-same .ensures in
+    told ∙ ap (λ v. allSame v (a .block .now)) (again .ensures ∙ ap (codeword (a .depth) (a .g .now) (a .t .now) (a .t2 .now)) (c .before .before .before .before .before .before .before .before .message-of .ensures))
 
 pub is-codeword-spec : {M : Type 1} → statement M
 is-codeword-spec =
