@@ -28,7 +28,8 @@ use Rattle.multilinear.specs.Table.{table}
 use Rattle.basefold.specs.Layout.{blockOf}
 use Rattle.basefold.specs.Written.{rounds, descend, blocks, opening}
 use mathlib.Core.Option.{some}
-use Rattle.basefold.specs.Checks.{sumCheck, finalCheck, baseCheck, foldCheck, firstFailure, checks, sumsFrom, foldHolds, foldsAt, foldsFrom, places, next, same-true, same-false, first-holds, first-fails}
+use Rattle.basefold.specs.Checks.{sumCheck, finalCheck, baseCheck, foldCheck, firstFailure, checks, sumsFrom, foldHolds, foldsAt, foldsFrom, places, next}
+use Rattle.basefold.specs.CheckLaws.{same-true, same-false, first-holds, first-fails}
 use Rattle.job.specs.Outcome.{done}
 use Rattle.job.specs.Limits.{rateOk}
 use Rattle.job.specs.declared.Refusal.the-variants.{NoCodeword}
@@ -90,12 +91,12 @@ Holds (decodes b c) =
 Holds (refuses b) =
     (old space : List ℕ) → length old ≡ 2 → length space ≡ 4 → Decoded 1 2 g t t' b old space (Refused NoCodeword) old (replicate (length space) 0)
 
-abbrev pub AllHold : List Case → Type 0
-AllHold [] = Unit {0}
-AllHold (c ∷ cs) = Holds c × AllHold cs
+abbrev pub AllProved : List Case → Type 0
+AllProved [] = Unit {0}
+AllProved (c ∷ cs) = Holds c × AllProved cs
 
-abbrev pub numbers : List Case
-numbers =
+abbrev pub starredNumbers : List Case
+starredNumbers =
     gives (residueOf (negsuc 0) ∷ []) (2147483646 ∷ [])
     ∷ reads (clearanceOf 1073741824) (negsuc 1073741822)
     ∷ coefficients (pos 3 ∷ pos 5 ∷ pos 4 ∷ pos 10 ∷ []) (3 ∷ 2 ∷ 1 ∷ 4 ∷ [])
@@ -250,5 +251,5 @@ unfolding verification judgeVerifying openedLengths openedWords queriesOk rowLen
 spoilt-0 = ap (λ v. numbersOf (done v)) first-spoilt
 
 -- the claim
-pub starred : AllHold numbers
+pub starred : AllProved starredNumbers
 starred = (refl, (refl, (coefficients-are, (encodes, (decodes-w, (refuses-spoilt, (fold-4, (written-3, (accepted-3, (refused-3, (written-0, (accepted-0, (spoilt-0, tt)))))))))))))
