@@ -4,10 +4,11 @@ use mathlib.Core.Bool.{Bool, true, false, cond, decide}
 use mathlib.Core.Logic.{_↔_}
 use mathlib.Core.Option.{none, some, orElse}
 use mathlib.Core.List.{List, [], _∷_, _++_}
-use Prim.Native.Nat.{ℕ}
+use Prim.Native.Nat.{ℕ, zero, suc, _<_}
 use native.Mathlib.Omega.{arith}
 use Rattle.algebra.specs.Ring.{Ring}
 use Rattle.algebra.specs.Field.{Field}
+use Rattle.algebra.specs.Lists.{row}
 use Rattle.basefold.specs.Checks.{Check, firstFailure, AllHold, same}
 
 pub first-holds : (c : Check) (b : Bool) (cs : List (Check × Bool)) → b ≡ true → firstFailure ((c, b) ∷ cs) ≡ firstFailure cs
@@ -45,6 +46,20 @@ none-fails (c ∷ cs) = go (c .1) refl (none-fails cs)
       λ h. absurd (let n : some (c .0) ≡ none = sym (ap (λ b. cond b (firstFailure cs) (some (c .0))) e) ∙ h in let z : _≡_ {A = ℕ} 0 1 = cc in omega arith),
       λ h. absurd (let n : false ≡ true = sym e ∙ h .0 in let z : _≡_ {A = ℕ} 0 1 = cc in omega arith),
     )
+
+-- all of two lists of checks, and all of a row of them
+pub all-append : (a b : List (Check × Bool)) → AllHold (a ++ b) ↔ (AllHold a × AllHold b)
+all-append [] b = (λ h. (tt, h), λ h. h .1)
+all-append (c ∷ a) b = let e = all-append a b in (λ h. let p = e .0 (h .1) in ((h .0, p .0), p .1), λ h. (h .0 .0, e .1 (h .0 .1, h .1)))
+
+pub all-row : (n : ℕ) (f : ℕ → Check × Bool) → AllHold (row n f) ↔ ((j : ℕ) → j < n → f j .1 ≡ true)
+unfolding row
+all-row zero f = (λ h j l. absurd (omega arith), λ h. tt)
+all-row (suc n) f = let e = all-row n (λ j. f (suc j)) in (λ h. at (h .0) (e .0 (h .1)), λ h. (h 0 (omega arith), e .1 (λ j l. h (suc j) (omega arith))))
+  where
+    at : f 0 .1 ≡ true → ((j : ℕ) → j < n → f (suc j) .1 ≡ true) → (j : ℕ) → j < suc n → f j .1 ≡ true
+    at h k zero l = h
+    at h k (suc j) l = k j (omega arith)
 
 module _ (F : Field) where
   open Field F using (ring as K, eq?)

@@ -47,7 +47,7 @@ no-queries : (n : ℕ) (us : List ℕ) → length us ≡ 0 → Queries n 0 us
 no-queries n [] e = tt
 no-queries n (u ∷ us) e = absurd (omega arith)
 
-legal-queries : (n d c : ℕ) (us : List ℕ) → n ≡ c → queriesOk d c us ≡ true → Queries n d us
+pub legal-queries : (n d c : ℕ) (us : List ℕ) → n ≡ c → queriesOk d c us ≡ true → Queries n d us
 unfolding queriesOk
 legal-queries n zero c us e h = no-queries n us (eqb-true _ _ h)
 legal-queries n (suc i) c us e h =

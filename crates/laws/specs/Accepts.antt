@@ -1,0 +1,198 @@
+-- When the verifier accepts: exactly when nothing is refused and each equation below holds, over the words lent.
+--     accepts-exactly
+-- Assumes nothing.
+use mathlib.Core.Path.{_≡_, refl, sym, ap, ap₂, _∙_}
+use mathlib.Core.Bool.{Bool, true, false, cond}
+use mathlib.Core.Logic.{_↔_, Iff·trans}
+use mathlib.Core.List.{List, [], _∷_}
+use mathlib.Core.Option.{Option, none, some}
+use Prim.Native.Nat.{ℕ, suc, _+_, _<_, _≤_}
+use native.Mathlib.Nat.{add-comm}
+use native.Mathlib.Omega.{arith}
+use lib.Dec.{eqb, ltb}
+use lib.ListN.{length, getD}
+use borrow.Author.Tests.{eqb-true}
+use Rattle.algebra.specs.Numerals.{num}
+use Rattle.algebra.specs.Tests.{and-both}
+use Rattle.algebra.specs.Words.{𝔽₁}
+use Rattle.algebra.specs.WordLists.{elements, length-elements, getD-elements}
+use Rattle.foldable.specs.Code.{size, encode, line}
+use Rattle.multilinear.specs.Corners.{eq}
+use Rattle.multilinear.specs.Plain.{finalSum-plain}
+use Rattle.multilinear.specs.Quadratic.{through}
+use Rattle.multilinear.specs.Rounds.{finalSum}
+use Rattle.basefold.specs.Layout.{roundAt, finalAt, openingSize, blockOf, sent, carried}
+use Rattle.basefold.specs.Checks.{Check, sumCheck, finalCheck, baseCheck, foldCheck, firstFailure, checks}
+use Rattle.basefold.specs.Plain.{carried-plain, base-plain, elements-block}
+use Rattle.basefold.specs.Equations.{placeAt, claim, Equations}
+use Rattle.basefold.specs.Honest.{Queries}
+use Rattle.basefold.specs.Accepts.{none-fails-exactly}
+use Rattle.job.specs.Outcome.{Outcome, refused, done, require, _⨾_}
+use Rattle.job.specs.OutcomeLaws.{require-done, held, both}
+use Rattle.job.specs.Limits.{depthOk, rateOk, blockSize}
+use Rattle.residue.specs.Residues.{F, K, Element, el, inv, _⊞_, _⊠_}
+use Rattle.residue.specs.Scans.{noneZero, allDiffer}
+use Rattle.code.specs.Lent.{lent, diagonal}
+use Rattle.code.specs.Parameters.{limits, rowLengths, legalRow, row-lengths}
+use Rattle.verify.specs.Verdicts.{numbersOf}
+use Rattle.verify.specs.Verifying.{openedLengths, openedWords, queriesOk, judgeVerifying, verification}
+use Rattle.laws.specs.Openings.{legal-queries}
+
+-- what the words of an opening o at depth d stand for: the value of h_i at k, v, and word u of the block of level i, where level d is w
+abbrev pub sentWord : ℕ → List ℕ → ℕ → ℕ → Element
+sentWord d o i k = el (getD o (roundAt d i + k) 0)
+
+abbrev pub finalWord : ℕ → List ℕ → Element
+finalWord d o = el (getD o (finalAt d) 0)
+
+abbrev pub blockWord : (d c : ℕ) → (w o : List ℕ) → ℕ → ℕ → Element
+blockWord d c w o i u = el (getD (blockOf c 0 d w o i) u 0)
+
+-- h_i(x), by its three values
+abbrev pub sentValue : ℕ → List ℕ → ℕ → Element → Element
+sentValue d o i x = through K (inv (num K 2)) (sentWord d o i 0) (sentWord d o i 1) (sentWord d o i 2) x
+
+-- claim i: y at i = d, and h_(i+1)(r_i) below
+abbrev pub claimed : ℕ → ℕ → (r o : List ℕ) → ℕ → Element
+claimed d y r o i = cond (ltb i d) (sentValue d o (suc i) (el (getD r i 0))) (el y)
+
+pub record Accepts (d c : ℕ) (g t t' w z : List ℕ) (y : ℕ) (r us o : List ℕ) : Type 0 where
+  -- sum i: h_i(0) + h_i(1) is claim i
+  pub sum : (i : ℕ) → 1 ≤ i → i ≤ d → sentWord d o i 0 ⊞ sentWord d o i 1 ≡ claimed d y r o i
+  -- final: v * eq(z, r) is claim 0
+  pub final : finalWord d o ⊠ eq K (elements 𝔽₁ z) (elements 𝔽₁ r) ≡ claimed d y r o 0
+  -- base j: block 0 holds v * g[j]
+  pub base : (j : ℕ) → j < c → blockWord d c w o 0 j ≡ finalWord d o ⊠ el (getD g j 0)
+  -- fold, query q, level i: at the query's place u the line through (T_i[u], block_(i+1)[u]) and (T'_i[u], block_(i+1)[u + n_i]) has at r_i the value block_i[u]
+  pub fold : (q i u : ℕ) → q < length us → i < d → u ≡ placeAt c (getD us q 0) i
+      → line F (el (getD r i 0)) (el (getD (diagonal c t i) u 0)) (el (getD (diagonal c t' i) u 0)) (blockWord d c w o (suc i) u) (blockWord d c w o (suc i) (u + blockSize c i))
+      ≡ blockWord d c w o i u
+
+-- refusals have numbers from 1 on
+require-positive : (b : Bool) (k : ℕ) {n : ℕ} → 1 ≤ k → require b k ≡ refused n → 1 ≤ n
+require-positive true k h e = absurd (let z : _≡_ {A = ℕ} 0 1 = cc in omega arith)
+require-positive false k {n} h e = let same : k ≡ n = cc in omega arith
+
+after-positive : {A B : Type 0} (o : Outcome A) {next : Outcome B} {n : ℕ} → (o ≡ refused n → 1 ≤ n) → (next ≡ refused n → 1 ≤ n) → o ⨾ next ≡ refused n → 1 ≤ n
+after-positive (refused k) {n = n} f g e = f (let same : k ≡ n = cc in ap refused same)
+after-positive (done a) f g e = g e
+
+-- 0 is answered exactly when nothing is refused and no check fails
+accepted-split : (j : Outcome (Unit {0})) (f : Option Check) → ((n : ℕ) → j ≡ refused n → 1 ≤ n) → numbersOf (j ⨾ done f) ≡ (0, 0, 0) → (j ≡ done tt) × (f ≡ none)
+accepted-split (refused n) f p e = absurd (omega (arith, p n refl, ap (λ x. x .0) e))
+accepted-split (done tt) none p e = (refl, refl)
+accepted-split (done tt) (some (sumCheck i)) p e = absurd (omega (arith, ap (λ x. x .0) e))
+accepted-split (done tt) (some finalCheck) p e = absurd (omega (arith, ap (λ x. x .0) e))
+accepted-split (done tt) (some (baseCheck j)) p e = absurd (omega (arith, ap (λ x. x .0) e))
+accepted-split (done tt) (some (foldCheck q i)) p e = absurd (omega (arith, ap (λ x. x .0) e))
+
+accepted-join : {j : Outcome (Unit {0})} {f : Option Check} → j ≡ done tt → f ≡ none → numbersOf (j ⨾ done f) ≡ (0, 0, 0)
+accepted-join p q = ap₂ (λ j f. numbersOf (j ⨾ done f)) p q
+
+module _ (d c : ℕ) (g t t' w z : List ℕ) (y : ℕ) (r us o : List ℕ) where
+  abbrev judged : Outcome (Unit {0})
+  judged = judgeVerifying d c g t t' w z y r us o
+
+  positive : (n : ℕ) → judged ≡ refused n → 1 ≤ n
+  unfolding judgeVerifying
+  positive n =
+      after-positive (limits d c) (after-positive (require (depthOk d) 1) (require-positive (depthOk d) 1 (omega arith)) (require-positive (rateOk c) 2 (omega arith)))
+      (after-positive (require lengths 3) (require-positive lengths 3 (omega arith))
+      (after-positive (require words 4) (require-positive words 4 (omega arith))
+      (after-positive (legalRow g t t') (after-positive (require (noneZero g) 5) (require-positive (noneZero g) 5 (omega arith)) (require-positive (allDiffer t t') 6 (omega arith)))
+      (require-positive (queriesOk d c us) 7 (omega arith)))))
+    where
+      lengths : Bool
+      lengths = openedLengths d c (length g) (length t) (length t') (length w) (length z) (length r) (length o)
+
+      words : Bool
+      words = openedWords g t t' w z y r o
+
+  -- what the equations need of the lengths and queries
+  known : judged ≡ done tt → (length g ≡ c) × (length r ≡ d) × (length o ≡ openingSize c 0 d) × (queriesOk d c us ≡ true)
+  unfolding judgeVerifying openedLengths
+  known e =
+      let a = both (limits d c) e in
+      let b = require-done (openedLengths d c (length g) (length t) (length t') (length w) (length z) (length r) (length o)) 3 (a .1) in
+      let s = require-done (openedWords g t t' w z y r o) 4 (b .1) in
+      let u = both (legalRow g t t') (s .1) in
+      let l = and-both (rowLengths d c (length g) (length t) (length t')) _ (b .0) in
+      let l₂ = and-both (eqb (length w) (blockSize c d)) _ (l .1) in
+      let l₃ = and-both (eqb (length z) d) _ (l₂ .1) in
+      let l₄ = and-both (eqb (length r) d) _ (l₃ .1) in
+      (row-lengths d c (length g) (length t) (length t') (l .0) .row, eqb-true _ _ (l₄ .0), eqb-true _ _ (l₄ .1), held (queriesOk d c us) 7 (u .1))
+
+  module _ (rate : length g ≡ c) (challenges : length r ≡ d) (long : length o ≡ openingSize c 0 d) where
+    depth : length (elements 𝔽₁ r) ≡ d
+    depth = length-elements 𝔽₁ r ∙ challenges
+
+    width : length (elements 𝔽₁ g) ≡ c
+    width = length-elements 𝔽₁ g ∙ rate
+
+    sent-is : (i k : ℕ) → sent F (elements 𝔽₁ o) (length (elements 𝔽₁ r)) i k ≡ sentWord d o i k
+    sent-is i k = ap (λ n. getD (elements 𝔽₁ o) (roundAt n i + k) (K .𝟘)) depth ∙ getD-elements 𝔽₁ o (roundAt d i + k)
+
+    claim-is : (i : ℕ) → claim F (elements 𝔽₁ o) (elements 𝔽₁ r) (el y) i ≡ claimed d y r o i
+    claim-is i = λ k. cond (ltb i (depth k)) (through K (inv (num K 2)) (sent-is (suc i) 0 k) (sent-is (suc i) 1 k) (sent-is (suc i) 2 k) (getD-elements 𝔽₁ r i k)) (el y)
+
+    carried-is : carried F 0 (elements 𝔽₁ o) (length (elements 𝔽₁ r)) ≡ finalWord d o ∷ []
+    carried-is =
+        ap (carried F 0 (elements 𝔽₁ o)) depth
+        ∙ carried-plain F (elements 𝔽₁ o) d (omega (arith, length-elements 𝔽₁ o))
+        ∙ ap (λ v. v ∷ []) (getD-elements 𝔽₁ o (finalAt d))
+
+    block-is : (i u : ℕ) → getD (blockOf (length (elements 𝔽₁ g)) 0 (length (elements 𝔽₁ r)) (elements 𝔽₁ w) (elements 𝔽₁ o) i) u (K .𝟘) ≡ blockWord d c w o i u
+    block-is i u =
+        ap₂ (λ n m. getD (blockOf n 0 m (elements 𝔽₁ w) (elements 𝔽₁ o) i) u (K .𝟘)) width depth
+        ∙ ap (λ b. getD b u (K .𝟘)) (sym (elements-block 𝔽₁ c 0 d w o i)) ∙ getD-elements 𝔽₁ (blockOf c 0 d w o i) u
+
+    diagonal-is : (s : List ℕ) (i u : ℕ) → getD (elements 𝔽₁ (diagonal (length g) s i)) u (K .𝟘) ≡ el (getD (diagonal c s i) u 0)
+    diagonal-is s i u = getD-elements 𝔽₁ (diagonal (length g) s i) u ∙ ap (λ n. el (getD (diagonal n s i) u 0)) rate
+
+    final-is : finalSum K 0 (carried F 0 (elements 𝔽₁ o) (length (elements 𝔽₁ r))) (elements 𝔽₁ z) (elements 𝔽₁ r) ≡ finalWord d o ⊠ eq K (elements 𝔽₁ z) (elements 𝔽₁ r)
+    final-is = ap (λ v. finalSum K 0 v (elements 𝔽₁ z) (elements 𝔽₁ r)) carried-is ∙ finalSum-plain K (finalWord d o) (elements 𝔽₁ z) (elements 𝔽₁ r)
+
+    base-is : (j : ℕ) → getD (encode F (lent g t t') 0 (carried F 0 (elements 𝔽₁ o) (length (elements 𝔽₁ r)))) j (K .𝟘) ≡ finalWord d o ⊠ el (getD g j 0)
+    base-is j =
+        ap (λ v. getD (encode F (lent g t t') 0 v) j (K .𝟘)) carried-is
+        ∙ base-plain F (elements 𝔽₁ g) _ _ (finalWord d o) j ∙ ap (λ a. finalWord d o ⊠ a) (getD-elements 𝔽₁ g j)
+
+    line-is : (i u : ℕ) → line F (getD (elements 𝔽₁ r) i (K .𝟘)) (getD (elements 𝔽₁ (diagonal (length g) t i)) u (K .𝟘)) (getD (elements 𝔽₁ (diagonal (length g) t' i)) u (K .𝟘))
+        (getD (blockOf (length (elements 𝔽₁ g)) 0 (length (elements 𝔽₁ r)) (elements 𝔽₁ w) (elements 𝔽₁ o) (suc i)) u (K .𝟘))
+        (getD (blockOf (length (elements 𝔽₁ g)) 0 (length (elements 𝔽₁ r)) (elements 𝔽₁ w) (elements 𝔽₁ o) (suc i)) (size F (lent g t t') i + u) (K .𝟘))
+        ≡ line F (el (getD r i 0)) (el (getD (diagonal c t i) u 0)) (el (getD (diagonal c t' i) u 0)) (blockWord d c w o (suc i) u) (blockWord d c w o (suc i) (u + blockSize c i))
+    line-is i u =
+        let far : size F (lent g t t') i + u ≡ u + blockSize c i = add-comm (size F (lent g t t') i) u ∙ ap (λ n. u + blockSize n i) width in
+        λ k. line F (getD-elements 𝔽₁ r i k) (diagonal-is t i u k) (diagonal-is t' i u k) (block-is (suc i) u k)
+        ((block-is (suc i) (size F (lent g t t') i + u) ∙ ap (blockWord d c w o (suc i)) far) k)
+
+    equations : Equations F 0 (lent g t t') (elements 𝔽₁ w) (elements 𝔽₁ z) (el y) (elements 𝔽₁ r) us (elements 𝔽₁ o) ↔ Accepts d c g t t' w z y r us o
+    equations = (
+      λ e. record {
+        sum = λ i l m. sym (ap₂ _⊞_ (sent-is i 0) (sent-is i 1)) ∙ e .sum i l (omega (arith, depth)) ∙ claim-is i;
+        final = sym final-is ∙ e .final ∙ claim-is 0;
+        base = λ j l. sym (block-is 0 j) ∙ e .base j (omega (arith, width)) ∙ base-is j;
+        fold = λ q i u l m p. sym (line-is i u) ∙ e .fold q i u l (omega (arith, depth)) (p ∙ ap (λ n. placeAt n (getD us q 0) i) (sym width)) ∙ block-is i u;
+      },
+      λ a. record {
+        sum = λ i l m. ap₂ _⊞_ (sent-is i 0) (sent-is i 1) ∙ a .sum i l (omega (arith, depth)) ∙ sym (claim-is i);
+        final = final-is ∙ a .final ∙ sym (claim-is 0);
+        base = λ j l. block-is 0 j ∙ a .base j (omega (arith, width)) ∙ sym (base-is j);
+        fold = λ q i u l m p. line-is i u ∙ a .fold q i u l (omega (arith, depth)) (p ∙ ap (λ n. placeAt n (getD us q 0) i) width) ∙ sym (block-is i u);
+      },
+    )
+
+  none-exactly : judged ≡ done tt
+      → (firstFailure (checks F 0 (lent g t t') (elements 𝔽₁ w) (elements 𝔽₁ z) (el y) (elements 𝔽₁ r) us (elements 𝔽₁ o)) ≡ none) ↔ Accepts d c g t t' w z y r us o
+  none-exactly e =
+      let k = known e in
+      let legal : Queries (length (elements 𝔽₁ g)) (length (elements 𝔽₁ r)) us = rw (depth (k .0) (k .1) (k .2)) (legal-queries (length (elements 𝔽₁ g)) d c us (width (k .0) (k .1) (k .2)) (k .3)) in
+      Iff·trans (none-fails-exactly F 0 (lent g t t') (elements 𝔽₁ w) (elements 𝔽₁ z) (el y) (elements 𝔽₁ r) us (elements 𝔽₁ o) legal) (equations (k .0) (k .1) (k .2))
+
+  -- the verifier answers 0 exactly when nothing is refused and every equation holds
+  pub accepts-exactly : (numbersOf (verification d c g t t' w z y r us o) ≡ (0, 0, 0)) ↔ ((judgeVerifying d c g t t' w z y r us o ≡ done tt) × Accepts d c g t t' w z y r us o)
+  unfolding verification
+  accepts-exactly = (
+    λ e. let s = accepted-split judged _ positive e in (s .0, none-exactly (s .0) .0 (s .1)),
+    λ h. accepted-join (h .0) (none-exactly (h .0) .1 (h .1)),
+  )
