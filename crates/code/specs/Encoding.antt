@@ -5,15 +5,13 @@ use mathlib.Core.List.{List}
 use Prim.Native.Nat.{ℕ, _^_}
 use lib.Dec.{eqb}
 use lib.ListN.{length}
-use Rattle.algebra.specs.Words.{𝔽₁}
-use Rattle.algebra.specs.WordLists.{Low, elements, toWords}
-use Rattle.foldable.specs.Code.{encode}
+use Rattle.algebra.specs.WordLists.{Low}
 use Rattle.job.specs.declared.Answer.{Answer}
 use Rattle.job.specs.Outcome.{Outcome, outcome, require, _⨾_, kept}
 use Rattle.job.specs.Limits.{blockSize}
-use Rattle.residue.specs.Residues.{P, F}
+use Rattle.residue.specs.Residues.{P}
 use Rattle.residue.specs.Scans.{allBelow}
-use Rattle.code.specs.Lent.{lent, Coding}
+use Rattle.code.specs.Lent.{codeword, Coding}
 use Rattle.code.specs.Parameters.{limits, rowLengths, rowWords, legalRow}
 
 -- of the lengths of g, T, T', message and result
@@ -30,7 +28,7 @@ judgeEncoding d c g t t' m n =
 -- answer r and result out: refused as above, and out as it was; or out is the message times the generator matrix
 pub record Encoded (d c : ℕ) (g t t' m old : List ℕ) (r : Answer) (out : List ℕ) : Type 0 where
   pub answer : outcome r ≡ judgeEncoding d c g t t' m (length old)
-  pub result : out ≡ kept (judgeEncoding d c g t t' m (length old)) old (toWords 𝔽₁ (encode F (lent g t t') d (elements 𝔽₁ m)))
+  pub result : out ≡ kept (judgeEncoding d c g t t' m (length old)) old (codeword d g t t' m)
 
 -- what the work is lent: exact lengths, words below the modulus, a legal row and diagonals
 pub record Encodes (d : ℕ) (g t t' m : List ℕ) (n : ℕ) : Type 0 where

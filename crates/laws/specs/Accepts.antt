@@ -33,7 +33,8 @@ use Rattle.job.specs.Limits.{depthOk, rateOk, blockSize}
 use Rattle.residue.specs.Residues.{F, K, Element, el, inv, _⊞_, _⊠_}
 use Rattle.residue.specs.Scans.{noneZero, allDiffer}
 use Rattle.code.specs.Lent.{lent, diagonal}
-use Rattle.code.specs.Parameters.{limits, rowLengths, legalRow, row-lengths}
+use Rattle.code.specs.Parameters.{limits, rowLengths, legalRow}
+use Rattle.code.specs.Parameters.{row-lengths}
 use Rattle.verify.specs.Verdicts.{numbersOf}
 use Rattle.verify.specs.Verifying.{openedLengths, openedWords, queriesOk, judgeVerifying, verification}
 use Rattle.laws.specs.Openings.{legal-queries}

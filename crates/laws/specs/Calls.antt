@@ -1,4 +1,4 @@
--- Legal row and diagonals, and what the calls on them write. Assumes nothing.
+-- Legal row and diagonals, and what a call is lent of them. Assumes nothing.
 use mathlib.Core.Path.{_≡_, sym, _∙_}
 use mathlib.Core.Bool.{true}
 use mathlib.Core.List.{List}
@@ -6,14 +6,13 @@ use Prim.Native.Nat.{ℕ, _+_, _≤_, _<_}
 use native.Mathlib.Omega.{arith}
 use lib.ListN.{length, take, length-take}
 use lib.Seq.{ext-getD, getD-take}
-use Rattle.algebra.specs.Words.{𝔽₁}
-use Rattle.algebra.specs.WordLists.{elements, toWords}
-use Rattle.foldable.specs.Code.{encode, foldAlong}
 use Rattle.job.specs.Outcome.{done}
 use Rattle.job.specs.Limits.{blockSize, diagonalsSize}
-use Rattle.residue.specs.Residues.{F, el}
-use Rattle.code.specs.Lent.{lent, diagonal, Coding, getD-diagonal, length-diagonal, level-within}
-use Rattle.code.specs.Parameters.{limits, rowLengths, rowWords, legalRow, lent-coding, row-lengths, RowLengths}
+use Rattle.fold.specs.Job.{foldWords}
+use Rattle.code.specs.Lent.{diagonal, Coding}
+use Rattle.code.specs.Lent.{getD-diagonal, length-diagonal, level-within}
+use Rattle.code.specs.Parameters.{limits, rowLengths, rowWords, legalRow}
+use Rattle.code.specs.Parameters.{lent-coding, row-lengths, RowLengths}
 
 -- no refusal is due for depth, rate, row and diagonals
 pub record LegalRow (d c : ℕ) (g t t' : List ℕ) : Type 0 where
@@ -32,13 +31,9 @@ lengths-of {d} {c} {g} {t} {t'} 𝓡 = row-lengths d c (length g) (length t) (le
 abbrev pub levelsBelow : ℕ → ℕ → List ℕ → List ℕ
 levelsBelow c i t = take (diagonalsSize c i) t
 
--- what encoding writes
-abbrev pub encoded : ℕ → List ℕ → List ℕ → List ℕ → List ℕ → List ℕ
-encoded d g t t' m = toWords 𝔽₁ (encode F (lent g t t') d (elements 𝔽₁ m))
-
--- what folding level i + 1 to level i writes, lent level i of the diagonals
-abbrev pub folded : ℕ → ℕ → List ℕ → List ℕ → List ℕ → ℕ → List ℕ
-folded c i t t' w a = toWords 𝔽₁ (foldAlong F (blockSize c i) (el a) (elements 𝔽₁ (diagonal c t i)) (elements 𝔽₁ (diagonal c t' i)) (elements 𝔽₁ w))
+-- what folding level i + 1 to level i writes, lent level i of the diagonals of all levels
+abbrev pub foldedLevel : ℕ → ℕ → List ℕ → List ℕ → List ℕ → ℕ → List ℕ
+foldedLevel c i t t' w a = foldWords (blockSize c i) (diagonal c t i) (diagonal c t' i) w a
 
 -- the levels below i are the same in both
 pub diagonal-below : (c i j : ℕ) (t : List ℕ) → j < i → diagonalsSize c i ≤ length t → diagonal c (levelsBelow c i t) j ≡ diagonal c t j
