@@ -1,4 +1,4 @@
--- When the verifier accepts: exactly when nothing is refused and each equation below holds, over the words lent.
+-- When the verifier accepts: exactly when nothing is refused and each of the order's equations holds, over the words lent.
 --     accepts-exactly
 -- Assumes nothing.
 use mathlib.Core.Path.{_≡_, refl, sym, ap, ap₂, _∙_}
@@ -6,7 +6,7 @@ use mathlib.Core.Bool.{Bool, true, false, cond}
 use mathlib.Core.Logic.{_↔_, Iff·trans}
 use mathlib.Core.List.{List, [], _∷_}
 use mathlib.Core.Option.{Option, none, some}
-use Prim.Native.Nat.{ℕ, suc, _+_, _<_, _≤_}
+use Prim.Native.Nat.{ℕ, suc, _+_, _≤_}
 use native.Mathlib.Nat.{add-comm}
 use native.Mathlib.Omega.{arith}
 use lib.Dec.{eqb, ltb}
@@ -30,7 +30,7 @@ use Rattle.basefold.specs.Accepts.{none-fails-exactly}
 use Rattle.job.specs.Outcome.{Outcome, refused, done, require, _⨾_}
 use Rattle.job.specs.OutcomeLaws.{require-done, held, both}
 use Rattle.job.specs.Limits.{depthOk, rateOk, blockSize}
-use Rattle.residue.specs.Residues.{F, K, Element, el, inv, _⊞_, _⊠_}
+use Rattle.residue.specs.Residues.{F, K, el, inv, _⊞_, _⊠_}
 use Rattle.residue.specs.Scans.{noneZero, allDiffer}
 use Rattle.code.specs.Lent.{lent, diagonal}
 use Rattle.code.specs.Parameters.{limits, rowLengths, legalRow}
@@ -38,36 +38,7 @@ use Rattle.code.specs.Parameters.{row-lengths}
 use Rattle.verify.specs.Verdicts.{numbersOf}
 use Rattle.verify.specs.Verifying.{openedLengths, openedWords, queriesOk, judgeVerifying, verification}
 use Rattle.laws.specs.Openings.{legal-queries}
-
--- what the words of an opening o at depth d stand for: the value of h_i at k, v, and word u of the block of level i, where level d is w
-abbrev pub sentWord : ℕ → List ℕ → ℕ → ℕ → Element
-sentWord d o i k = el (getD o (roundAt d i + k) 0)
-
-abbrev pub finalWord : ℕ → List ℕ → Element
-finalWord d o = el (getD o (finalAt d) 0)
-
-abbrev pub blockWord : (d c : ℕ) → (w o : List ℕ) → ℕ → ℕ → Element
-blockWord d c w o i u = el (getD (blockOf c 0 d w o i) u 0)
-
--- h_i(x), by its three values
-abbrev pub sentValue : ℕ → List ℕ → ℕ → Element → Element
-sentValue d o i x = through K (inv (num K 2)) (sentWord d o i 0) (sentWord d o i 1) (sentWord d o i 2) x
-
--- claim i: y at i = d, and h_(i+1)(r_i) below
-abbrev pub claimed : ℕ → ℕ → (r o : List ℕ) → ℕ → Element
-claimed d y r o i = cond (ltb i d) (sentValue d o (suc i) (el (getD r i 0))) (el y)
-
-pub record Accepts (d c : ℕ) (g t t' w z : List ℕ) (y : ℕ) (r us o : List ℕ) : Type 0 where
-  -- sum i: h_i(0) + h_i(1) is claim i
-  pub sum : (i : ℕ) → 1 ≤ i → i ≤ d → sentWord d o i 0 ⊞ sentWord d o i 1 ≡ claimed d y r o i
-  -- final: v * eq(z, r) is claim 0
-  pub final : finalWord d o ⊠ eq K (elements 𝔽₁ z) (elements 𝔽₁ r) ≡ claimed d y r o 0
-  -- base j: block 0 holds v * g[j]
-  pub base : (j : ℕ) → j < c → blockWord d c w o 0 j ≡ finalWord d o ⊠ el (getD g j 0)
-  -- fold, query q, level i: at the query's place u the line through (T_i[u], block_(i+1)[u]) and (T'_i[u], block_(i+1)[u + n_i]) has at r_i the value block_i[u]
-  pub fold : (q i u : ℕ) → q < length us → i < d → u ≡ placeAt c (getD us q 0) i
-      → line F (el (getD r i 0)) (el (getD (diagonal c t i) u 0)) (el (getD (diagonal c t' i) u 0)) (blockWord d c w o (suc i) u) (blockWord d c w o (suc i) (u + blockSize c i))
-      ≡ blockWord d c w o i u
+use Rattle.laws.specs.Equations.{sentWord, finalWord, blockWord, claimed, Accepts}
 
 -- refusals have numbers from 1 on
 require-positive : (b : Bool) (k : ℕ) {n : ℕ} → 1 ≤ k → require b k ≡ refused n → 1 ≤ n

@@ -2,7 +2,7 @@
 --     fold-law-calls, two-challenge-calls
 -- Assumes nothing.
 use mathlib.Core.Path.{_≡_, sym, ap, subst, _∙_}
-use mathlib.Core.Logic.{_↔_, _⊎_, inl, inr}
+use mathlib.Core.Logic.{_↔_, inl, inr}
 use mathlib.Core.List.{List}
 use Prim.Native.Nat.{ℕ, suc, _+_, _*_, _-_, _^_, _<_}
 use native.Mathlib.Nat.{two-pow-succ}
@@ -10,52 +10,22 @@ use native.Mathlib.Omega.{arith}
 use lib.ListN.{length, take, drop, length-map, length-take, length-drop}
 use Rattle.algebra.specs.Lists.{length-zip}
 use Rattle.algebra.specs.Words.{𝔽₁}
-use Rattle.algebra.specs.WordLists.{Low, low-words, elements, length-elements, length-words}
+use Rattle.algebra.specs.WordLists.{low-words, elements, length-elements, length-words}
 use Rattle.foldable.specs.Code.{Codeword}
 use Rattle.foldable.specs.Encode.{length-encode}
 use Rattle.foldable.specs.Fold.{length-fold}
 use Rattle.job.specs.declared.Answer.{Answer}
-use Rattle.job.specs.Outcome.{refused, done, outcome, kept}
+use Rattle.job.specs.Outcome.{done, outcome, kept}
 use Rattle.job.specs.Limits.{blockSize}
 use Rattle.residue.specs.Residues.{P, F, K, el}
 use Rattle.code.specs.Lent.{lent, diagonal, codeword}
-use Rattle.code.specs.Encoding.{Encoded}
-use Rattle.fold.specs.Job.{foldWords, Folded}
+use Rattle.fold.specs.Job.{foldWords}
 use Rattle.decode.specs.Decoding.{judgeDecoding, Settled, message, none, Decoded, refusal, settled}
 use Rattle.decode.specs.Laws.{exactly}
-use Rattle.laws.specs.Calls.{LegalRow, coding-of, lengths-of, levelsBelow, foldedLevel}
+use Rattle.laws.specs.Calls.{LegalRow, levelsBelow, foldedLevel, mixed, ExactEncode, ExactFold, ExactDecode, ResidueBlock, ResidueMessage, Decides, TwoChallenges}
+use Rattle.laws.specs.CallLaws.{coding-of, lengths-of}
 use Rattle.laws.specs.NotRefused.{encoding-done, decoding-done, folding-done, row-below}
-use Rattle.laws.specs.Folds.{mixed, fold-is, fold-law, two-challenge-law}
-
--- calls with result and work buffers of exact length, whatever these held
-pub record ExactEncode (d c : ℕ) (g t t' m : List ℕ) (r : Answer) (out : List ℕ) : Type 0 where
-  pub old : List ℕ
-  pub sized : length old ≡ blockSize c d
-  pub call : Encoded d c g t t' m old r out
-
--- of level i + 1 to level i, lent level i of the diagonals of all levels
-pub record ExactFold (i c : ℕ) (t t' w : List ℕ) (a : ℕ) (r : Answer) (out : List ℕ) : Type 0 where
-  pub old : List ℕ
-  pub sized : length old ≡ blockSize c i
-  pub call : Folded (suc i) c (diagonal c t i) (diagonal c t' i) w a old r out
-
-pub record ExactDecode (d c : ℕ) (g t t' w : List ℕ) (r : Answer) : Type 0 where
-  pub old : List ℕ
-  pub space : List ℕ
-  pub out : List ℕ
-  pub work : List ℕ
-  pub sized : length old ≡ 2 ^ d
-  pub room : length space ≡ blockSize c d
-  pub call : Decoded d c g t t' w old space r out work
-
--- a block of level d, and a message of depth d, of residues
-pub record ResidueBlock (d c : ℕ) (w : List ℕ) : Type 0 where
-  pub sized : length w ≡ blockSize c d
-  pub low : Low P w
-
-pub record ResidueMessage (d : ℕ) (m : List ℕ) : Type 0 where
-  pub sized : length m ≡ 2 ^ d
-  pub low : Low P m
+use Rattle.laws.specs.Folds.{fold-is, fold-law, two-challenge-law}
 
 -- left + challenge * right is a message again
 mixed-message : (i a : ℕ) (m : List ℕ) → length m ≡ 2 ^ suc i → ResidueMessage i (mixed (2 ^ i) a m)
@@ -110,10 +80,6 @@ module _ {i c : ℕ} {g t t' : List ℕ} (𝓡 : LegalRow (suc i) c g t t') wher
       let z = encode-writes (row-below 𝓡 i (omega arith)) (mixed-message i a m (𝓜 .sized)) h in
       (x .0, y .0, z .0, y .1 ∙ ap (λ v. foldedLevel c i t t' v a) (x .1) ∙ fold-law i c g t t' 𝓡 m a (𝓜 .sized) ∙ sym (z .1))
 
--- a call of decoding that none of 1 to 6 refuses: the block is a codeword, or 8
-abbrev pub Decides : Answer → Type 0
-Decides r = (outcome r ≡ done tt) ⊎ (outcome r ≡ refused 8)
-
 settles : {d : ℕ} {g t t' w old : List ℕ} {r : Answer} {out : List ℕ} → Settled d g t t' w old r out → Decides r
 settles (message a l p e) = inl a
 settles (none a n s) = inr a
@@ -129,15 +95,6 @@ decode-answers : {d c : ℕ} {g t t' w : List ℕ} {r : Answer} → LegalRow d c
 decode-answers {d} {c} {g} {t} {t'} {w} {r} 𝓡 𝓦 e =
     let j = decoding-done 𝓡 w (length (e .old)) (length (e .space)) (𝓦 .sized) (𝓦 .low) (e .sized) (e .room) in
     (decides-of j (e .call), exactly d c g t t' w (e .old) (e .space) r (e .out) (e .work) j (e .call))
-
--- what is known of the answers r of decoding a block, fa and fb of folding it by two challenges, and ra and rb of decoding both folds
-pub record TwoChallenges (r fa fb ra rb : Answer) : Type 0 where
-  pub whole : Decides r
-  pub first-fold : outcome fa ≡ done tt
-  pub second-fold : outcome fb ≡ done tt
-  pub first : Decides ra
-  pub second : Decides rb
-  pub exactly-both : (outcome r ≡ done tt) ↔ ((outcome ra ≡ done tt) × (outcome rb ≡ done tt))
 
 -- for two different challenges decoding gives a message of the block exactly when it gives one of both folds
 pub two-challenge-calls : {i c a b : ℕ} {g t t' w wa wb : List ℕ} {r fa fb ra rb : Answer} → LegalRow (suc i) c g t t' → ResidueBlock (suc i) c w → a < P → b < P → (a ≡ b → ⊥)

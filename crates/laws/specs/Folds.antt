@@ -17,15 +17,12 @@ use Rattle.job.specs.Limits.{blockSize, diagonalsSize}
 use Rattle.residue.specs.Residues.{P, F, K, el, word}
 use Rattle.code.specs.Lent.{lent, diagonal, Coding, codeword}
 use Rattle.code.specs.Lent.{diagonals-mono}
-use Rattle.laws.specs.Calls.{LegalRow, coding-of, lengths-of, levelsBelow, foldedLevel, diagonal-below}
+use Rattle.laws.specs.Calls.{LegalRow, levelsBelow, foldedLevel, mixed}
+use Rattle.laws.specs.CallLaws.{coding-of, lengths-of, diagonal-below}
 
 infixl 66 _⊕_
 infixr 71 _⊛_
 open Vectors (vectors K) using (_⊕_, _⊛_)
-
--- left + challenge * right of a message of 2 n words
-abbrev pub mixed : ℕ → ℕ → List ℕ → List ℕ
-mixed n a m = toWords 𝔽₁ (elements 𝔽₁ (take n m) ⊕ el a ⊛ elements 𝔽₁ (drop n m))
 
 module _ (i c : ℕ) (g t t' : List ℕ) (𝓡 : LegalRow (suc i) c g t t') where
   rate : length g ≡ c

@@ -1,5 +1,4 @@
--- What encoding, writing and verifying leave, one after the other on the same buffers, for every input; and that the verdict is 0 wherever no refusal
--- is due.
+-- Encoding, writing and verifying, one after the other: the verdict is 0 wherever no refusal is due.
 --     commit-accepted
 -- Assumes nothing.
 use mathlib.Core.Path.{_≡_, refl, sym, ap, ap₂, _∙_}
@@ -30,26 +29,11 @@ use Rattle.open.specs.Writing.{judgeWriting, writeLengths, inputLengths, buffer
 use Rattle.open.specs.declared.Written.{Written}
 use Rattle.open.specs.declared.Written.the-variants.{Value, Refused as NotWritten}
 use Rattle.verify.specs.Verdicts.{numbers, numbersOf}
-use Rattle.verify.specs.Verifying.{queriesOk, verification}
+use Rattle.verify.specs.Verifying.{verification}
 use Rattle.verify.specs.declared.Verdict.{Verdict}
 use Rattle.laws.specs.Calls.{LegalRow}
 use Rattle.laws.specs.Openings.{opening-accepted}
-
--- opening and then verifying, with the block w: verdict v, opening o' and work s', which were o and s. The first refusal is the verdict, and else it
--- is that on the opening as it is defined, with f(z)
-pub record OpenVerify (d c : ℕ) (g t t' m z r us w o s : List ℕ) (v : Verdict) (o' s' : List ℕ) : Type 0 where
-  pub verdict : numbers v ≡ numbersOf (judgeWriting d c g t t' m z r (length o) (length s) ⨾ verification d c g t t' w z (valueWord m z) r us (openingWords g t t' m z r))
-  pub opening : o' ≡ kept (judgeWriting d c g t t' m z r (length o) (length s)) o (openingWords g t t' m z r)
-  pub work : s' ≡ kept (judgeWriting d c g t t' m z r (length o) (length s)) s (replicate (length s) 0)
-
--- before that, encoding: block w', which was w
-pub record CommitOpenVerify (d c : ℕ) (g t t' m z r us w o s : List ℕ) (v : Verdict) (w' o' s' : List ℕ) : Type 0 where
-  pub verdict : numbers v
-      ≡ numbersOf (judgeEncoding d c g t t' m (length w) ⨾ judgeWriting d c g t t' m z r (length o) (length s)
-      ⨾ verification d c g t t' (codeword d g t t' m) z (valueWord m z) r us (openingWords g t t' m z r))
-  pub block : w' ≡ kept (judgeEncoding d c g t t' m (length w)) w (codeword d g t t' m)
-  pub opening : o' ≡ kept (judgeEncoding d c g t t' m (length w) ⨾ judgeWriting d c g t t' m z r (length o) (length s)) o (openingWords g t t' m z r)
-  pub work : s' ≡ kept (judgeEncoding d c g t t' m (length w) ⨾ judgeWriting d c g t t' m z r (length o) (length s)) s (replicate (length s) 0)
+use Rattle.laws.specs.Commit.{OpenVerify, CommitOpenVerify, NothingRefused}
 
 -- of two outcomes in turn: the value and the buffer of the first, or its refusal
 after-value : (j : Outcome (Unit {0})) (v : ℕ) (O : List ℕ) (f : ℕ → List ℕ → Outcome (Option Check)) {y : ℕ} (o : List ℕ) {o' : List ℕ} → done y ≡ j ⨾ done v → o' ≡ kept j o O
@@ -100,12 +84,6 @@ module _ {d c : ℕ} {g t t' m z r us w o s w' : List ℕ} {a : Answer} (p : Enc
         opening = ap (λ x. kept (x ⨾ k) o (openingWords g t t' m z r)) f;
         work = ap (λ x. kept (x ⨾ k) s (replicate (length s) 0)) f;
       }
-
--- no refusal is due, with a block of n words, an opening of o and a work buffer of s
-pub record NothingRefused (d c : ℕ) (g t t' m z r us : List ℕ) (n o s : ℕ) : Type 0 where
-  pub encodes : judgeEncoding d c g t t' m n ≡ done tt
-  pub writes : judgeWriting d c g t t' m z r o s ≡ done tt
-  pub asks : queriesOk d c us ≡ true
 
 module _ {d c : ℕ} {g t t' m z r us : List ℕ} {n o s : ℕ} (𝓕 : NothingRefused d c g t t' m z r us n o s) where
   within : (limits d c ≡ done tt) × (encodeLengths d c (length g) (length t) (length t') (length m) n ≡ true)

@@ -1,17 +1,20 @@
 -- What the jobs promise together, over the definitions that their contracts cite.
---     Calls      which row and diagonals are legal, and what a call is lent of them
---     NotRefused which calls are refused by none of 1 to 6
---     Folds      fold-law, two-challenge-law
---     FoldCalls  fold-law-calls, two-challenge-calls: the same, said of calls
---     Openings   opening-accepted, opening-fails
---     Accepts    accepts-exactly: when the verifier answers 0
---     Honest     accepted: what encode, write and verify leave one after the other
---     Starred    the numbers that are proved, as one table
+--     Calls, Commit, Equations   THE DEFINITIONS: legal row and diagonals, and calls on them; committing, opening and verifying in turn; what the verifier compares
+--     CallLaws, NotRefused       what is known of a legal row; which calls are refused by none of 1 to 6
+--     Folds                      fold-law, two-challenge-law
+--     FoldCalls                  fold-law-calls, two-challenge-calls: the same, said of calls
+--     Openings                   opening-accepted, opening-fails
+--     Accepts                    accepts-exactly: when the verifier answers 0
+--     Honest                     commit-accepted: committing, opening and verifying in turn answers 0
+--     Starred                    the numbers that are proved, as one table
 pub mod Calls
+pub mod CallLaws
 pub mod NotRefused
 pub mod Folds
 pub mod FoldCalls
 pub mod Openings
+pub mod Equations
 pub mod Accepts
+pub mod Commit
 pub mod Honest
 pub mod Starred

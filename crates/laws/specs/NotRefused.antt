@@ -22,7 +22,8 @@ use Rattle.code.specs.Parameters.{within, row-words, RowWords}
 use Rattle.code.specs.Encoding.{encodeLengths, judgeEncoding}
 use Rattle.fold.specs.Job.{levelOk, lengthsOk, wordsOk, judgeFolding}
 use Rattle.decode.specs.Decoding.{decodeLengths, judgeDecoding}
-use Rattle.laws.specs.Calls.{LegalRow, lengths-of, levelsBelow}
+use Rattle.laws.specs.Calls.{LegalRow, levelsBelow}
+use Rattle.laws.specs.CallLaws.{lengths-of}
 
 module _ {A : Type 0} (f : A → A → Bool) where
   all₂-short : (xs : List A) → all₂ f xs [] ≡ true

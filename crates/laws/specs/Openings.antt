@@ -29,7 +29,8 @@ use Rattle.open.specs.Laws.{length-opening}
 use Rattle.open.specs.Writing.{openingWords, valueWord}
 use Rattle.verify.specs.Verdicts.{Numbers, numbersOf}
 use Rattle.verify.specs.Verifying.{most, openedLengths, openedWords, queriesOk, judgeVerifying, verification}
-use Rattle.laws.specs.Calls.{LegalRow, coding-of, lengths-of}
+use Rattle.laws.specs.Calls.{LegalRow}
+use Rattle.laws.specs.CallLaws.{coding-of, lengths-of}
 
 -- 20 with i = d, and 21 at depth 0
 abbrev pub failed : ℕ → Numbers
