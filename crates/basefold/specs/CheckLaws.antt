@@ -1,5 +1,6 @@
--- Laws of the checks: which fails first, that none fails exactly when all hold, and what the test of two elements says. Assumes nothing.
-use mathlib.Core.Path.{_≡_, refl, sym, ap, _∙_}
+-- Laws of the checks: which fails first (first-exactly), that none fails exactly when all hold (none-fails), and what the test of two elements says.
+-- Assumes nothing.
+use mathlib.Core.Path.{_≡_, refl, sym, ap, ap₂, _∙_}
 use mathlib.Core.Bool.{Bool, true, false, cond, decide}
 use mathlib.Core.Logic.{_↔_}
 use mathlib.Core.Option.{none, some, orElse}
@@ -9,7 +10,7 @@ use native.Mathlib.Omega.{arith}
 use Rattle.algebra.specs.Ring.{Ring}
 use Rattle.algebra.specs.Field.{Field}
 use Rattle.algebra.specs.Lists.{row}
-use Rattle.basefold.specs.Checks.{Check, firstFailure, AllHold, same}
+use Rattle.basefold.specs.Checks.{Check, firstFailure, AllHold, FailsFirst, same}
 
 pub first-holds : (c : Check) (b : Bool) (cs : List (Check × Bool)) → b ≡ true → firstFailure ((c, b) ∷ cs) ≡ firstFailure cs
 unfolding firstFailure
@@ -46,6 +47,30 @@ none-fails (c ∷ cs) = go (c .1) refl (none-fails cs)
       λ h. absurd (let n : some (c .0) ≡ none = sym (ap (λ b. cond b (firstFailure cs) (some (c .0))) e) ∙ h in let z : _≡_ {A = ℕ} 0 1 = cc in omega arith),
       λ h. absurd (let n : false ≡ true = sym e ∙ h .0 in let z : _≡_ {A = ℕ} 0 1 = cc in omega arith),
     )
+
+-- a first failure is the first check that fails
+pub first-exactly : (cs : List (Check × Bool)) (c : Check) → (firstFailure cs ≡ some c) ↔ FailsFirst cs c
+first-exactly cs c = (
+  λ e. found cs e,
+  λ f. ap firstFailure (f .splits) ∙ skipped (f .before) (f .after) (f .hold),
+)
+  where
+    skipped : (a b : List (Check × Bool)) → AllHold a → firstFailure (a ++ (c, false) ∷ b) ≡ some c
+    skipped [] b h = first-fails c false b refl
+    skipped (x ∷ a) b h = first-holds (x .0) (x .1) (a ++ (c, false) ∷ b) (h .0) ∙ skipped a b (h .1)
+
+    found : (cs : List (Check × Bool)) → firstFailure cs ≡ some c → FailsFirst cs c
+    found [] e = absurd (let n : none ≡ some c = sym first-none ∙ e in let z : _≡_ {A = ℕ} 0 1 = cc in omega arith)
+    found (x ∷ cs) e = at (x .1) refl (found cs)
+      where
+        at : (t : Bool) → x .1 ≡ t → (firstFailure cs ≡ some c → FailsFirst cs c) → FailsFirst (x ∷ cs) c
+        at true p ih =
+            let f = ih (sym (first-holds (x .0) (x .1) cs p) ∙ e) in
+            record { before = x ∷ f .before; after = f .after; splits = ap (λ l. x ∷ l) (f .splits); hold = (p, f .hold) }
+        at false p ih =
+            let n : some (x .0) ≡ some c = sym (first-fails (x .0) (x .1) cs p) ∙ e in
+            let same : x .0 ≡ c = cc in
+            record { before = []; after = cs; splits = ap₂ (λ a b. (a, b) ∷ cs) same p; hold = tt }
 
 -- all of two lists of checks, and all of a row of them
 pub all-append : (a b : List (Check × Bool)) → AllHold (a ++ b) ↔ (AllHold a × AllHold b)

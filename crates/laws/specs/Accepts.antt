@@ -1,8 +1,9 @@
--- When the verifier accepts: exactly when nothing is refused and each of the order's equations holds, over the words lent.
---     accepts-exactly
+-- When the verifier accepts: exactly when nothing is refused and each of the order's equations holds, over the words lent; and
+-- which check it names otherwise.
+--     accepts-exactly, rejects-exactly
 -- Assumes nothing.
 use mathlib.Core.Path.{_≡_, refl, sym, ap, ap₂, _∙_}
-use mathlib.Core.Bool.{Bool, true, false, cond}
+use mathlib.Core.Bool.{Bool, true, cond}
 use mathlib.Core.Logic.{_↔_, Iff·trans}
 use mathlib.Core.List.{List, [], _∷_}
 use mathlib.Core.Option.{Option, none, some}
@@ -22,57 +23,69 @@ use Rattle.multilinear.specs.Plain.{finalSum-plain}
 use Rattle.multilinear.specs.Quadratic.{through}
 use Rattle.multilinear.specs.Rounds.{finalSum}
 use Rattle.basefold.specs.Layout.{roundAt, finalAt, openingSize, blockOf, sent, carried}
-use Rattle.basefold.specs.Checks.{Check, sumCheck, finalCheck, baseCheck, foldCheck, firstFailure, checks}
+use Rattle.basefold.specs.Checks.{Check, sumCheck, finalCheck, baseCheck, foldCheck, firstFailure, FailsFirst, checks}
+use Rattle.basefold.specs.CheckLaws.{first-exactly}
 use Rattle.basefold.specs.Plain.{carried-plain, base-plain, elements-block}
 use Rattle.basefold.specs.Equations.{placeAt, claim, Equations}
 use Rattle.basefold.specs.Honest.{Queries}
 use Rattle.basefold.specs.Accepts.{none-fails-exactly}
 use Rattle.job.specs.Outcome.{Outcome, refused, done, require, _⨾_}
-use Rattle.job.specs.OutcomeLaws.{require-done, held, both}
+use Rattle.job.specs.OutcomeLaws.{require-done, held, both, require-number, after-number}
 use Rattle.job.specs.Limits.{depthOk, rateOk, blockSize}
 use Rattle.residue.specs.Residues.{F, K, el, inv, _⊞_, _⊠_}
 use Rattle.residue.specs.Scans.{noneZero, allDiffer}
 use Rattle.code.specs.Lent.{lent, diagonal}
 use Rattle.code.specs.Parameters.{limits, rowLengths, legalRow}
 use Rattle.code.specs.Parameters.{row-lengths}
-use Rattle.verify.specs.Verdicts.{numbersOf}
+use Rattle.verify.specs.Verdicts.{Numbers, checkNumbers, numbersOf}
 use Rattle.verify.specs.Verifying.{openedLengths, openedWords, queriesOk, judgeVerifying, verification}
 use Rattle.laws.specs.Openings.{legal-queries}
-use Rattle.laws.specs.Equations.{sentWord, finalWord, blockWord, claimed, Accepts}
+use Rattle.laws.specs.Equations.{sentElement, finalElement, blockElement, claimed, Accepts}
 
--- refusals have numbers from 1 on
-require-positive : (b : Bool) (k : ℕ) {n : ℕ} → 1 ≤ k → require b k ≡ refused n → 1 ≤ n
-require-positive true k h e = absurd (let z : _≡_ {A = ℕ} 0 1 = cc in omega arith)
-require-positive false k {n} h e = let same : k ≡ n = cc in omega arith
+-- the refusals of the verifier are 1 to 7
+abbrev Number : ℕ → Type 0
+Number n = (1 ≤ n) × (n ≤ 7)
 
-after-positive : {A B : Type 0} (o : Outcome A) {next : Outcome B} {n : ℕ} → (o ≡ refused n → 1 ≤ n) → (next ≡ refused n → 1 ≤ n) → o ⨾ next ≡ refused n → 1 ≤ n
-after-positive (refused k) {n = n} f g e = f (let same : k ≡ n = cc in ap refused same)
-after-positive (done a) f g e = g e
+-- the check with a number and its places
+abbrev checkOf : Numbers → Check
+checkOf n = cond (eqb (n .0) 20) (sumCheck (n .1)) (cond (eqb (n .0) 21) finalCheck (cond (eqb (n .0) 22) (baseCheck (n .1)) (foldCheck (n .1) (n .2))))
+
+check-numbers : (c : Check) → checkOf (checkNumbers c) ≡ c
+check-numbers (sumCheck i) = refl
+check-numbers finalCheck = refl
+check-numbers (baseCheck j) = refl
+check-numbers (foldCheck q i) = refl
+
+check-least : (c : Check) → 20 ≤ checkNumbers c .0
+check-least (sumCheck i) = omega arith
+check-least finalCheck = omega arith
+check-least (baseCheck j) = omega arith
+check-least (foldCheck q i) = omega arith
+
+-- a check is named exactly when nothing is refused and it is the first that fails
+named-split : (j : Outcome (Unit {0})) (f : Option Check) (c : Check) → ((n : ℕ) → j ≡ refused n → Number n) → numbersOf (j ⨾ done f) ≡ checkNumbers c → (j ≡ done tt) × (f ≡ some c)
+named-split (refused n) f c p e = absurd (omega (arith, p n refl .1, check-least c, ap (λ x. x .0) e))
+named-split (done tt) none c p e = absurd (omega (arith, check-least c, ap (λ x. x .0) e))
+named-split (done tt) (some b) c p e = (refl, ap some (sym (check-numbers b) ∙ ap checkOf e ∙ check-numbers c))
 
 -- 0 is answered exactly when nothing is refused and no check fails
-accepted-split : (j : Outcome (Unit {0})) (f : Option Check) → ((n : ℕ) → j ≡ refused n → 1 ≤ n) → numbersOf (j ⨾ done f) ≡ (0, 0, 0) → (j ≡ done tt) × (f ≡ none)
-accepted-split (refused n) f p e = absurd (omega (arith, p n refl, ap (λ x. x .0) e))
+accepted-split : (j : Outcome (Unit {0})) (f : Option Check) → ((n : ℕ) → j ≡ refused n → Number n) → numbersOf (j ⨾ done f) ≡ (0, 0, 0) → (j ≡ done tt) × (f ≡ none)
+accepted-split (refused n) f p e = absurd (omega (arith, p n refl .0, ap (λ x. x .0) e))
 accepted-split (done tt) none p e = (refl, refl)
-accepted-split (done tt) (some (sumCheck i)) p e = absurd (omega (arith, ap (λ x. x .0) e))
-accepted-split (done tt) (some finalCheck) p e = absurd (omega (arith, ap (λ x. x .0) e))
-accepted-split (done tt) (some (baseCheck j)) p e = absurd (omega (arith, ap (λ x. x .0) e))
-accepted-split (done tt) (some (foldCheck q i)) p e = absurd (omega (arith, ap (λ x. x .0) e))
-
-accepted-join : {j : Outcome (Unit {0})} {f : Option Check} → j ≡ done tt → f ≡ none → numbersOf (j ⨾ done f) ≡ (0, 0, 0)
-accepted-join p q = ap₂ (λ j f. numbersOf (j ⨾ done f)) p q
+accepted-split (done tt) (some c) p e = absurd (omega (arith, check-least c, ap (λ x. x .0) e))
 
 module _ (d c : ℕ) (g t t' w z : List ℕ) (y : ℕ) (r us o : List ℕ) where
   abbrev judged : Outcome (Unit {0})
   judged = judgeVerifying d c g t t' w z y r us o
 
-  positive : (n : ℕ) → judged ≡ refused n → 1 ≤ n
+  refusals : (n : ℕ) → judged ≡ refused n → Number n
   unfolding judgeVerifying
-  positive n =
-      after-positive (limits d c) (after-positive (require (depthOk d) 1) (require-positive (depthOk d) 1 (omega arith)) (require-positive (rateOk c) 2 (omega arith)))
-      (after-positive (require lengths 3) (require-positive lengths 3 (omega arith))
-      (after-positive (require words 4) (require-positive words 4 (omega arith))
-      (after-positive (legalRow g t t') (after-positive (require (noneZero g) 5) (require-positive (noneZero g) 5 (omega arith)) (require-positive (allDiffer t t') 6 (omega arith)))
-      (require-positive (queriesOk d c us) 7 (omega arith)))))
+  refusals n =
+      after-number Number (limits d c) (after-number Number (require (depthOk d) 1) (require-number Number (depthOk d) 1 (omega arith, omega arith)) (require-number Number (rateOk c) 2 (omega arith, omega arith)))
+      (after-number Number (require lengths 3) (require-number Number lengths 3 (omega arith, omega arith))
+      (after-number Number (require words 4) (require-number Number words 4 (omega arith, omega arith))
+      (after-number Number (legalRow g t t') (after-number Number (require (noneZero g) 5) (require-number Number (noneZero g) 5 (omega arith, omega arith)) (require-number Number (allDiffer t t') 6 (omega arith, omega arith)))
+      (require-number Number (queriesOk d c us) 7 (omega arith, omega arith)))))
     where
       lengths : Bool
       lengths = openedLengths d c (length g) (length t) (length t') (length w) (length z) (length r) (length o)
@@ -101,19 +114,19 @@ module _ (d c : ℕ) (g t t' w z : List ℕ) (y : ℕ) (r us o : List ℕ) where
     width : length (elements 𝔽₁ g) ≡ c
     width = length-elements 𝔽₁ g ∙ rate
 
-    sent-is : (i k : ℕ) → sent F (elements 𝔽₁ o) (length (elements 𝔽₁ r)) i k ≡ sentWord d o i k
+    sent-is : (i k : ℕ) → sent F (elements 𝔽₁ o) (length (elements 𝔽₁ r)) i k ≡ sentElement d o i k
     sent-is i k = ap (λ n. getD (elements 𝔽₁ o) (roundAt n i + k) (K .𝟘)) depth ∙ getD-elements 𝔽₁ o (roundAt d i + k)
 
     claim-is : (i : ℕ) → claim F (elements 𝔽₁ o) (elements 𝔽₁ r) (el y) i ≡ claimed d y r o i
     claim-is i = λ k. cond (ltb i (depth k)) (through K (inv (num K 2)) (sent-is (suc i) 0 k) (sent-is (suc i) 1 k) (sent-is (suc i) 2 k) (getD-elements 𝔽₁ r i k)) (el y)
 
-    carried-is : carried F 0 (elements 𝔽₁ o) (length (elements 𝔽₁ r)) ≡ finalWord d o ∷ []
+    carried-is : carried F 0 (elements 𝔽₁ o) (length (elements 𝔽₁ r)) ≡ finalElement d o ∷ []
     carried-is =
         ap (carried F 0 (elements 𝔽₁ o)) depth
         ∙ carried-plain F (elements 𝔽₁ o) d (omega (arith, length-elements 𝔽₁ o))
         ∙ ap (λ v. v ∷ []) (getD-elements 𝔽₁ o (finalAt d))
 
-    block-is : (i u : ℕ) → getD (blockOf (length (elements 𝔽₁ g)) 0 (length (elements 𝔽₁ r)) (elements 𝔽₁ w) (elements 𝔽₁ o) i) u (K .𝟘) ≡ blockWord d c w o i u
+    block-is : (i u : ℕ) → getD (blockOf (length (elements 𝔽₁ g)) 0 (length (elements 𝔽₁ r)) (elements 𝔽₁ w) (elements 𝔽₁ o) i) u (K .𝟘) ≡ blockElement d c w o i u
     block-is i u =
         ap₂ (λ n m. getD (blockOf n 0 m (elements 𝔽₁ w) (elements 𝔽₁ o) i) u (K .𝟘)) width depth
         ∙ ap (λ b. getD b u (K .𝟘)) (sym (elements-block 𝔽₁ c 0 d w o i)) ∙ getD-elements 𝔽₁ (blockOf c 0 d w o i) u
@@ -121,22 +134,22 @@ module _ (d c : ℕ) (g t t' w z : List ℕ) (y : ℕ) (r us o : List ℕ) where
     diagonal-is : (s : List ℕ) (i u : ℕ) → getD (elements 𝔽₁ (diagonal (length g) s i)) u (K .𝟘) ≡ el (getD (diagonal c s i) u 0)
     diagonal-is s i u = getD-elements 𝔽₁ (diagonal (length g) s i) u ∙ ap (λ n. el (getD (diagonal n s i) u 0)) rate
 
-    final-is : finalSum K 0 (carried F 0 (elements 𝔽₁ o) (length (elements 𝔽₁ r))) (elements 𝔽₁ z) (elements 𝔽₁ r) ≡ finalWord d o ⊠ eq K (elements 𝔽₁ z) (elements 𝔽₁ r)
-    final-is = ap (λ v. finalSum K 0 v (elements 𝔽₁ z) (elements 𝔽₁ r)) carried-is ∙ finalSum-plain K (finalWord d o) (elements 𝔽₁ z) (elements 𝔽₁ r)
+    final-is : finalSum K 0 (carried F 0 (elements 𝔽₁ o) (length (elements 𝔽₁ r))) (elements 𝔽₁ z) (elements 𝔽₁ r) ≡ finalElement d o ⊠ eq K (elements 𝔽₁ z) (elements 𝔽₁ r)
+    final-is = ap (λ v. finalSum K 0 v (elements 𝔽₁ z) (elements 𝔽₁ r)) carried-is ∙ finalSum-plain K (finalElement d o) (elements 𝔽₁ z) (elements 𝔽₁ r)
 
-    base-is : (j : ℕ) → getD (encode F (lent g t t') 0 (carried F 0 (elements 𝔽₁ o) (length (elements 𝔽₁ r)))) j (K .𝟘) ≡ finalWord d o ⊠ el (getD g j 0)
+    base-is : (j : ℕ) → getD (encode F (lent g t t') 0 (carried F 0 (elements 𝔽₁ o) (length (elements 𝔽₁ r)))) j (K .𝟘) ≡ finalElement d o ⊠ el (getD g j 0)
     base-is j =
         ap (λ v. getD (encode F (lent g t t') 0 v) j (K .𝟘)) carried-is
-        ∙ base-plain F (elements 𝔽₁ g) _ _ (finalWord d o) j ∙ ap (λ a. finalWord d o ⊠ a) (getD-elements 𝔽₁ g j)
+        ∙ base-plain F (elements 𝔽₁ g) _ _ (finalElement d o) j ∙ ap (λ a. finalElement d o ⊠ a) (getD-elements 𝔽₁ g j)
 
     line-is : (i u : ℕ) → line F (getD (elements 𝔽₁ r) i (K .𝟘)) (getD (elements 𝔽₁ (diagonal (length g) t i)) u (K .𝟘)) (getD (elements 𝔽₁ (diagonal (length g) t' i)) u (K .𝟘))
         (getD (blockOf (length (elements 𝔽₁ g)) 0 (length (elements 𝔽₁ r)) (elements 𝔽₁ w) (elements 𝔽₁ o) (suc i)) u (K .𝟘))
         (getD (blockOf (length (elements 𝔽₁ g)) 0 (length (elements 𝔽₁ r)) (elements 𝔽₁ w) (elements 𝔽₁ o) (suc i)) (size F (lent g t t') i + u) (K .𝟘))
-        ≡ line F (el (getD r i 0)) (el (getD (diagonal c t i) u 0)) (el (getD (diagonal c t' i) u 0)) (blockWord d c w o (suc i) u) (blockWord d c w o (suc i) (u + blockSize c i))
+        ≡ line F (el (getD r i 0)) (el (getD (diagonal c t i) u 0)) (el (getD (diagonal c t' i) u 0)) (blockElement d c w o (suc i) u) (blockElement d c w o (suc i) (u + blockSize c i))
     line-is i u =
         let far : size F (lent g t t') i + u ≡ u + blockSize c i = add-comm (size F (lent g t t') i) u ∙ ap (λ n. u + blockSize n i) width in
         λ k. line F (getD-elements 𝔽₁ r i k) (diagonal-is t i u k) (diagonal-is t' i u k) (block-is (suc i) u k)
-        ((block-is (suc i) (size F (lent g t t') i + u) ∙ ap (blockWord d c w o (suc i)) far) k)
+        ((block-is (suc i) (size F (lent g t t') i + u) ∙ ap (blockElement d c w o (suc i)) far) k)
 
     equations : Equations F 0 (lent g t t') (elements 𝔽₁ w) (elements 𝔽₁ z) (el y) (elements 𝔽₁ r) us (elements 𝔽₁ o) ↔ Accepts d c g t t' w z y r us o
     equations = (
@@ -165,6 +178,16 @@ module _ (d c : ℕ) (g t t' w z : List ℕ) (y : ℕ) (r us o : List ℕ) where
   pub accepts-exactly : (numbersOf (verification d c g t t' w z y r us o) ≡ (0, 0, 0)) ↔ ((judgeVerifying d c g t t' w z y r us o ≡ done tt) × Accepts d c g t t' w z y r us o)
   unfolding verification
   accepts-exactly = (
-    λ e. let s = accepted-split judged _ positive e in (s .0, none-exactly (s .0) .0 (s .1)),
-    λ h. accepted-join (h .0) (none-exactly (h .0) .1 (h .1)),
+    λ e. let s = accepted-split judged _ refusals e in (s .0, none-exactly (s .0) .0 (s .1)),
+    λ h. ap₂ (λ j f. numbersOf (j ⨾ done f)) (h .0) (none-exactly (h .0) .1 (h .1)),
   )
+
+  -- and it names a check exactly when nothing is refused and that check is the first that fails
+  pub rejects-exactly : (k : Check) → (numbersOf (verification d c g t t' w z y r us o) ≡ checkNumbers k)
+      ↔ ((judgeVerifying d c g t t' w z y r us o ≡ done tt) × FailsFirst (checks F 0 (lent g t t') (elements 𝔽₁ w) (elements 𝔽₁ z) (el y) (elements 𝔽₁ r) us (elements 𝔽₁ o)) k)
+  unfolding verification
+  rejects-exactly k =
+      let e = first-exactly (checks F 0 (lent g t t') (elements 𝔽₁ w) (elements 𝔽₁ z) (el y) (elements 𝔽₁ r) us (elements 𝔽₁ o)) k in (
+        λ q. let s = named-split judged _ k refusals q in (s .0, e .0 (s .1)),
+        λ h. ap₂ (λ j f. numbersOf (j ⨾ done f)) (h .0) (e .1 (h .1)),
+      )

@@ -4,7 +4,7 @@
 --     Folds                      fold-law, two-challenge-law
 --     FoldCalls                  fold-law-calls, two-challenge-calls: the same, said of calls
 --     Openings                   opening-accepted, opening-fails
---     Accepts                    accepts-exactly: when the verifier answers 0
+--     Accepts                    accepts-exactly, rejects-exactly: when the verifier answers 0, and when it names a check
 --     Honest                     commit-accepted: committing, opening and verifying in turn answers 0
 --     Starred                    the numbers that are proved, as one table
 pub mod Calls

@@ -1,13 +1,13 @@
 -- Where row and diagonals are legal, lengths exact and words below the modulus, encoding, folding and decoding are refused by none of 1 to 6; and
 -- the levels below the top one are legal again. Assumes nothing.
-use mathlib.Core.Path.{_≡_, refl, sym, ap₂, _∙_}
-use mathlib.Core.Bool.{Bool, true, _&&_}
-use mathlib.Core.List.{List, [], _∷_}
-use Prim.Native.Nat.{ℕ, zero, suc, _-_, _^_, _<_, _≤_}
+use mathlib.Core.Path.{_≡_, sym, _∙_}
+use mathlib.Core.Bool.{true}
+use mathlib.Core.List.{List}
+use Prim.Native.Nat.{ℕ, suc, _-_, _^_, _<_, _≤_}
 use native.Mathlib.Omega.{arith}
 use lib.ListN.{length, take, drop, length-take}
 use borrow.Author.Tests.{eq-eqb, le-leb, lt-ltb, leb-true}
-use Rattle.algebra.specs.Tests.{all₂, and-both}
+use Rattle.algebra.specs.Tests.{all₂-take, all₂-drop}
 use Rattle.algebra.specs.WordLists.{Low, low-take, low-drop}
 use Rattle.job.specs.Outcome.{done}
 use Rattle.job.specs.OutcomeLaws.{require-done, held}
@@ -24,26 +24,6 @@ use Rattle.fold.specs.Job.{levelOk, lengthsOk, wordsOk, judgeFolding}
 use Rattle.decode.specs.Decoding.{decodeLengths, judgeDecoding}
 use Rattle.laws.specs.Calls.{LegalRow, levelsBelow}
 use Rattle.laws.specs.CallLaws.{lengths-of}
-
-module _ {A : Type 0} (f : A → A → Bool) where
-  all₂-short : (xs : List A) → all₂ f xs [] ≡ true
-  unfolding all₂
-  all₂-short [] = refl
-  all₂-short (x ∷ xs) = refl
-
-  all₂-take : (n : ℕ) (xs ys : List A) → all₂ f xs ys ≡ true → all₂ f (take n xs) (take n ys) ≡ true
-  unfolding all₂
-  all₂-take zero xs ys e = refl
-  all₂-take (suc n) [] ys e = refl
-  all₂-take (suc n) (x ∷ xs) [] e = refl
-  all₂-take (suc n) (x ∷ xs) (y ∷ ys) e = let b = and-both (f x y) (all₂ f xs ys) e in ap₂ _&&_ (b .0) (all₂-take n xs ys (b .1))
-
-  all₂-drop : (n : ℕ) (xs ys : List A) → all₂ f xs ys ≡ true → all₂ f (drop n xs) (drop n ys) ≡ true
-  unfolding all₂
-  all₂-drop zero xs ys e = e
-  all₂-drop (suc n) [] ys e = refl
-  all₂-drop (suc n) (x ∷ xs) [] e = all₂-short (drop n xs)
-  all₂-drop (suc n) (x ∷ xs) (y ∷ ys) e = all₂-drop n xs ys (and-both (f x y) (all₂ f xs ys) e .1)
 
 -- depth d or below, and the rate
 limits-done : (d i c : ℕ) → i ≤ d → limits d c ≡ done tt → limits i c ≡ done tt

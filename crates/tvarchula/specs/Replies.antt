@@ -79,3 +79,8 @@ pub record WriteCall (d c : ℕ) (g t t' m z r old space : List ℕ) (value : �
 -- a verdict's number and places
 abbrev pub triple : Numbers → Reply
 triple n = record { number = n .0; first = n .1; second = n .2 }
+
+-- a single result, by the reply's number n: the value where it is 0, and else as it was
+pub data Single (answer : Outcome ℕ) (n old value : ℕ) : Type 0 where
+  written : n ≡ 0 → answer ≡ done value → Single answer n old value
+  left : (n ≡ 0 → ⊥) → answer ≡ refused n → value ≡ old → Single answer n old value
