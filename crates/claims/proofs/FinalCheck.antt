@@ -13,7 +13,8 @@ use Rattle.multilinear.specs.Corners.{eq}
 use Rattle.multilinear.specs.Plain.{finalSum-plain}
 use Rattle.multilinear.specs.Rounds.{finalSum}
 use Rattle.basefold.specs.Layout.{finalAt, carried}
-use Rattle.basefold.specs.Checks.{finalCheck, firstFailure, sumsFrom, same, first-holds, first-fails, first-none}
+use Rattle.basefold.specs.Checks.{finalCheck, firstFailure, sumsFrom, same}
+use Rattle.basefold.specs.CheckLaws.{first-holds, first-fails, first-none}
 use Rattle.residue.specs.Residues.{F, K, elem, word, _⊠_}
 use Rattle.residue.specs.ResidueLaws.{stands}
 use Rattle.residue.specs.declared.Residue.{Residue}

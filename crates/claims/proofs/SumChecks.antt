@@ -11,7 +11,8 @@ use Rattle.algebra.specs.Words.{𝔽₁}
 use Rattle.algebra.specs.WordLists.{elements, length-elements, getD-elements}
 use Rattle.multilinear.specs.Quadratic.{through, through-steps}
 use Rattle.basefold.specs.Layout.{roundAt, sent}
-use Rattle.basefold.specs.Checks.{sumCheck, firstFailure, sumsFrom, sums, same, first-holds, first-fails}
+use Rattle.basefold.specs.Checks.{sumCheck, firstFailure, sumsFrom, sums, same}
+use Rattle.basefold.specs.CheckLaws.{first-holds, first-fails}
 use Rattle.residue.specs.Residues.{P, F, K, Element, el, elem, word, half, Low, _⊞_, _⊟_, _⊠_}
 use Rattle.residue.specs.ResidueLaws.{is-low, stands}
 use Rattle.residue.specs.declared.Residue.{Residue}

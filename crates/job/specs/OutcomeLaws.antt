@@ -1,5 +1,5 @@
 -- Laws of outcomes: which refusal decides, what a buffer holds then, and that an outcome says which answer was given. Assumes nothing.
-use mathlib.Core.Path.{_≡_, refl, sym, ap, _∙_}
+use mathlib.Core.Path.{_≡_, refl, sym, ap, subst, _∙_}
 use mathlib.Core.Bool.{Bool, true, false, _&&_}
 use mathlib.Core.List.{List}
 use Prim.Native.Nat.{ℕ, zero, suc}
@@ -58,6 +58,15 @@ kept-refused old new e = sym (ap (λ o. kept o old new) e)
 pub guarded : {B : Type 0} (a b : Bool) (n k : ℕ) (next : Outcome B) → require a n ⨾ require (a && b) k ⨾ next ≡ require a n ⨾ require b k ⨾ next
 guarded true b n k next = refl
 guarded false b n k next = refl
+
+-- what holds of the number of each test that may refuse holds of a refusal
+pub require-number : (Q : ℕ → Type 0) (b : Bool) (k : ℕ) {n : ℕ} → Q k → require b k ≡ refused n → Q n
+require-number Q true k q e = absurd (let z : _≡_ {A = ℕ} 0 1 = cc in omega arith)
+require-number Q false k {n} q e = let same : k ≡ n = cc in subst Q same q
+
+pub after-number : {A B : Type 0} (Q : ℕ → Type 0) (o : Outcome A) {next : Outcome B} {n : ℕ} → (o ≡ refused n → Q n) → (next ≡ refused n → Q n) → o ⨾ next ≡ refused n → Q n
+after-number Q (refused k) {n = n} f g e = f (let same : k ≡ n = cc in ap refused same)
+after-number Q (done a) f g e = g e
 
 -- an answer is determined by its outcome
 abbrev ofNumber : ℕ → Refusal

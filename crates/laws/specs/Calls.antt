@@ -1,21 +1,26 @@
--- Legal row and diagonals, and what the calls on them write. Assumes nothing.
-use mathlib.Core.Path.{_≡_, sym, _∙_}
+-- Legal row and diagonals, what a call is lent of them, calls with buffers of exact length, and what is said of them together. Definitions only. Assumes nothing.
+use mathlib.Core.Path.{_≡_}
 use mathlib.Core.Bool.{true}
+use mathlib.Core.Logic.{_↔_, _⊎_}
 use mathlib.Core.List.{List}
-use Prim.Native.Nat.{ℕ, _+_, _≤_, _<_}
-use native.Mathlib.Omega.{arith}
-use lib.ListN.{length, take, length-take}
-use lib.Seq.{ext-getD, getD-take}
+use Prim.Native.Nat.{ℕ, suc, _^_}
+use lib.ListN.{length, take, drop}
+use Rattle.algebra.specs.Vector.{Vectors, vectors}
 use Rattle.algebra.specs.Words.{𝔽₁}
-use Rattle.algebra.specs.WordLists.{elements, toWords}
-use Rattle.foldable.specs.Code.{encode, foldAlong}
-use Rattle.job.specs.Outcome.{done}
+use Rattle.algebra.specs.WordLists.{Low, elements, toWords}
+use Rattle.job.specs.declared.Answer.{Answer}
+use Rattle.job.specs.Outcome.{refused, done, outcome}
 use Rattle.job.specs.Limits.{blockSize, diagonalsSize}
-use Rattle.residue.specs.Residues.{F, el}
-use Rattle.parameters.specs.Lent.{lent, diagonal, Coding}
-use Rattle.parameters.specs.LentLaws.{getD-diagonal, length-diagonal, level-within}
+use Rattle.residue.specs.Residues.{P, K, el}
+use Rattle.parameters.specs.Lent.{diagonal}
 use Rattle.parameters.specs.Parameters.{limits, rowLengths, rowWords, legalRow}
-use Rattle.parameters.specs.ParameterLaws.{lent-coding, row-lengths, RowLengths}
+use Rattle.code.specs.Encoding.{Encoded}
+use Rattle.fold.specs.Job.{foldWords, Folded}
+use Rattle.decode.specs.Decoding.{Decoded}
+
+infixl 66 _⊕_
+infixr 71 _⊛_
+open Vectors (vectors K) using (_⊕_, _⊛_)
 
 -- no refusal is due for depth, rate, row and diagonals
 pub record LegalRow (d c : ℕ) (g t t' : List ℕ) : Type 0 where
@@ -24,30 +29,57 @@ pub record LegalRow (d c : ℕ) (g t t' : List ℕ) : Type 0 where
   pub words : rowWords g t t' ≡ true
   pub legal : legalRow g t t' ≡ done tt
 
-pub coding-of : {d c : ℕ} {g t t' : List ℕ} → LegalRow d c g t t' → Coding d g t t'
-coding-of {d} {c} {g} {t} {t'} 𝓡 = lent-coding d c g t t' (𝓡 .lengths) (𝓡 .words) (𝓡 .legal)
-
-pub lengths-of : {d c : ℕ} {g t t' : List ℕ} → LegalRow d c g t t' → RowLengths d c (length g) (length t) (length t')
-lengths-of {d} {c} {g} {t} {t'} 𝓡 = row-lengths d c (length g) (length t) (length t') (𝓡 .lengths)
-
 -- the levels below depth i of the diagonals that a call of larger depth is lent
 abbrev pub levelsBelow : ℕ → ℕ → List ℕ → List ℕ
 levelsBelow c i t = take (diagonalsSize c i) t
 
--- what encoding writes
-abbrev pub encoded : ℕ → List ℕ → List ℕ → List ℕ → List ℕ → List ℕ
-encoded d g t t' m = toWords 𝔽₁ (encode F (lent g t t') d (elements 𝔽₁ m))
+-- what folding level i + 1 to level i writes, lent level i of the diagonals of all levels
+abbrev pub foldedLevel : ℕ → ℕ → List ℕ → List ℕ → List ℕ → ℕ → List ℕ
+foldedLevel c i t t' w a = foldWords (blockSize c i) (diagonal c t i) (diagonal c t' i) w a
 
--- what folding level i + 1 to level i writes, lent level i of the diagonals
-abbrev pub folded : ℕ → ℕ → List ℕ → List ℕ → List ℕ → ℕ → List ℕ
-folded c i t t' w a = toWords 𝔽₁ (foldAlong F (blockSize c i) (el a) (elements 𝔽₁ (diagonal c t i)) (elements 𝔽₁ (diagonal c t' i)) (elements 𝔽₁ w))
+-- left + challenge * right of a message of 2 n words
+abbrev pub mixed : ℕ → ℕ → List ℕ → List ℕ
+mixed n a m = toWords 𝔽₁ (elements 𝔽₁ (take n m) ⊕ el a ⊛ elements 𝔽₁ (drop n m))
 
--- the levels below i are the same in both
-pub diagonal-below : (c i j : ℕ) (t : List ℕ) → j < i → diagonalsSize c i ≤ length t → diagonal c (levelsBelow c i t) j ≡ diagonal c t j
-diagonal-below c i j t h l =
-    let s : length (levelsBelow c i t) ≡ diagonalsSize c i = length-take (diagonalsSize c i) t ∙ omega arith in
-    let a = length-diagonal c i j (levelsBelow c i t) h (omega arith) in
-    let b = length-diagonal c i j t h l in
-    ext-getD 0 _ _ (a ∙ sym b)
-    (λ k q. getD-diagonal c j (levelsBelow c i t) k (omega arith) ∙ getD-take (diagonalsSize c i) t (diagonalsSize c j + k) 0 (omega (arith, level-within c j i h))
-    ∙ sym (getD-diagonal c j t k (omega arith)))
+-- calls with result and work buffers of exact length, whatever these held
+pub record ExactEncode (d c : ℕ) (g t t' m : List ℕ) (r : Answer) (out : List ℕ) : Type 0 where
+  pub old : List ℕ
+  pub sized : length old ≡ blockSize c d
+  pub call : Encoded d c g t t' m old r out
+
+-- of level i + 1 to level i, lent level i of the diagonals of all levels
+pub record ExactFold (i c : ℕ) (t t' w : List ℕ) (a : ℕ) (r : Answer) (out : List ℕ) : Type 0 where
+  pub old : List ℕ
+  pub sized : length old ≡ blockSize c i
+  pub call : Folded (suc i) c (diagonal c t i) (diagonal c t' i) w a old r out
+
+pub record ExactDecode (d c : ℕ) (g t t' w : List ℕ) (r : Answer) : Type 0 where
+  pub old : List ℕ
+  pub space : List ℕ
+  pub out : List ℕ
+  pub work : List ℕ
+  pub sized : length old ≡ 2 ^ d
+  pub room : length space ≡ blockSize c d
+  pub call : Decoded d c g t t' w old space r out work
+
+-- a block of level d, and a message of depth d, of residues
+pub record ResidueBlock (d c : ℕ) (w : List ℕ) : Type 0 where
+  pub sized : length w ≡ blockSize c d
+  pub low : Low P w
+
+pub record ResidueMessage (d : ℕ) (m : List ℕ) : Type 0 where
+  pub sized : length m ≡ 2 ^ d
+  pub low : Low P m
+
+-- a call of decoding that none of 1 to 6 refuses: the block is a codeword, or 8
+abbrev pub Decides : Answer → Type 0
+Decides r = (outcome r ≡ done tt) ⊎ (outcome r ≡ refused 8)
+
+-- what is known of the answers r of decoding a block, fa and fb of folding it by two challenges, and ra and rb of decoding both folds
+pub record TwoChallenges (r fa fb ra rb : Answer) : Type 0 where
+  pub whole : Decides r
+  pub first-fold : outcome fa ≡ done tt
+  pub second-fold : outcome fb ≡ done tt
+  pub first : Decides ra
+  pub second : Decides rb
+  pub exactly-both : (outcome r ≡ done tt) ↔ ((outcome ra ≡ done tt) × (outcome rb ≡ done tt))

@@ -15,17 +15,14 @@ use Rattle.foldable.specs.Fold.{fold-split, two-challenges}
 use Rattle.foldable.specs.Prefix.{encode-prefix, codeword-prefix}
 use Rattle.job.specs.Limits.{blockSize, diagonalsSize}
 use Rattle.residue.specs.Residues.{P, F, K, el, word}
-use Rattle.parameters.specs.Lent.{lent, diagonal, Coding}
+use Rattle.parameters.specs.Lent.{lent, diagonal, Coding, codeword}
 use Rattle.parameters.specs.LentLaws.{diagonals-mono}
-use Rattle.laws.specs.Calls.{LegalRow, coding-of, lengths-of, levelsBelow, encoded, folded, diagonal-below}
+use Rattle.laws.specs.Calls.{LegalRow, levelsBelow, foldedLevel, mixed}
+use Rattle.laws.specs.CallLaws.{coding-of, lengths-of, diagonal-below}
 
 infixl 66 _⊕_
 infixr 71 _⊛_
 open Vectors (vectors K) using (_⊕_, _⊛_)
-
--- left + challenge * right of a message of 2 n words
-abbrev pub mixed : ℕ → ℕ → List ℕ → List ℕ
-mixed n a m = toWords 𝔽₁ (elements 𝔽₁ (take n m) ⊕ el a ⊛ elements 𝔽₁ (drop n m))
 
 module _ (i c : ℕ) (g t t' : List ℕ) (𝓡 : LegalRow (suc i) c g t t') where
   rate : length g ≡ c
@@ -42,7 +39,7 @@ module _ (i c : ℕ) (g t t' : List ℕ) (𝓡 : LegalRow (suc i) c g t t') wher
       (sym (ap (λ k. diagonal (length g) (levelsBelow k i s) j) (sym rate)
       ∙ diagonal-below (length g) i j s l (omega (arith, diagonals-mono (length g) i (suc i) (omega arith)))))
 
-  fold-is : (w : List ℕ) (a : ℕ) → folded c i t t' w a ≡ toWords 𝔽₁ (fold F (lent g t t') i (el a) (elements 𝔽₁ w))
+  pub fold-is : (w : List ℕ) (a : ℕ) → foldedLevel c i t t' w a ≡ toWords 𝔽₁ (fold F (lent g t t') i (el a) (elements 𝔽₁ w))
   unfolding fold
   fold-is w a =
       ap (λ k. toWords 𝔽₁ (foldAlong F (blockSize k i) (el a) (elements 𝔽₁ (diagonal k t i)) (elements 𝔽₁ (diagonal k t' i)) (elements 𝔽₁ w))) (sym rate)
@@ -50,11 +47,11 @@ module _ (i c : ℕ) (g t t' : List ℕ) (𝓡 : LegalRow (suc i) c g t t') wher
 
   -- a fold of a codeword is the codeword of left + challenge * right
   pub fold-law : (m : List ℕ) (a : ℕ) → length m ≡ 2 ^ suc i
-      → folded c i t t' (encoded (suc i) g t t' m) a ≡ encoded i g (levelsBelow c i t) (levelsBelow c i t') (mixed (2 ^ i) a m)
+      → foldedLevel c i t t' (codeword (suc i) g t t' m) a ≡ codeword i g (levelsBelow c i t) (levelsBelow c i t') (mixed (2 ^ i) a m)
   fold-law m a e =
       let C = lent g t t' in
       let half : dim F C i ≡ 2 ^ i = one-mul (2 ^ i) in
-      fold-is (encoded (suc i) g t t' m) a
+      fold-is (codeword (suc i) g t t' m) a
       ∙ ap (λ w. toWords 𝔽₁ (fold F C i (el a) w)) (elements-words 𝔽₁ _)
       ∙ ap (toWords 𝔽₁)
       (fold-split F C i (coded .legal) (el a) (elements 𝔽₁ m) (length-elements 𝔽₁ m ∙ e ∙ sym (one-mul (2 ^ suc i)))
@@ -69,13 +66,13 @@ module _ (i c : ℕ) (g t t' : List ℕ) (𝓡 : LegalRow (suc i) c g t t') wher
 
   -- for two different challenges a block is a codeword exactly when both folds are
   pub two-challenge-law : (w : List ℕ) (a b : ℕ) → length w ≡ blockSize c (suc i) → a < P → b < P → (a ≡ b → ⊥)
-      → Codeword F (lent g t t') (suc i) (elements 𝔽₁ w) ↔ (Below (folded c i t t' w a) × Below (folded c i t t' w b))
+      → Codeword F (lent g t t') (suc i) (elements 𝔽₁ w) ↔ (Below (foldedLevel c i t t' w a) × Below (foldedLevel c i t t' w b))
   two-challenge-law w a b e la lb n =
       let C = lent g t t' in
       let apart : el a ≡ el b → ⊥ = λ q. n (sym (𝔽₁ .words .val-el a la) ∙ ap word q ∙ 𝔽₁ .words .val-el b lb) in
       let sized : length (elements 𝔽₁ w) ≡ size F C (suc i) = length-elements 𝔽₁ w ∙ e ∙ ap (λ k. k * 2 ^ suc i) (sym (length-elements 𝔽₁ g ∙ rate)) in
       let two = two-challenges F C i (coded .legal) (el a) (el b) apart (elements 𝔽₁ w) sized in
-      let words : (x : ℕ) → elements 𝔽₁ (folded c i t t' w x) ≡ fold F C i (el x) (elements 𝔽₁ w) = λ x. ap (elements 𝔽₁) (fold-is w x) ∙ elements-words 𝔽₁ _ in
+      let words : (x : ℕ) → elements 𝔽₁ (foldedLevel c i t t' w x) ≡ fold F C i (el x) (elements 𝔽₁ w) = λ x. ap (elements 𝔽₁) (fold-is w x) ∙ elements-words 𝔽₁ _ in
       let p = below t (coded .first) in
       let q = below t' (coded .second) in (
         λ h. let both = two .0 h in (rw (words a) (codeword-prefix F _ _ _ _ _ _ i p q (both .0)), rw (words b) (codeword-prefix F _ _ _ _ _ _ i p q (both .1))),

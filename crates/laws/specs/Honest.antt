@@ -1,39 +1,91 @@
--- What encoding, writing and verifying leave, one after the other on the same buffers: accepted. Assumes nothing.
-use mathlib.Core.Path.{_≡_, ap, ap₂, _∙_}
+-- Encoding, writing and verifying, one after the other: the verdict is 0 wherever no refusal is due.
+--     commit-accepted
+-- Assumes nothing.
+use mathlib.Core.Path.{_≡_, refl, sym, ap, ap₂, _∙_}
 use mathlib.Core.Bool.{true, _&&_}
 use mathlib.Core.List.{List}
+use mathlib.Core.Option.{Option}
 use Prim.Native.Nat.{ℕ, _^_}
 use native.Mathlib.Omega.{arith}
 use lib.Dec.{eqb}
-use lib.ListN.{length}
+use lib.ListN.{length, replicate}
 use borrow.Author.Tests.{eqb-true}
 use Rattle.algebra.specs.Tests.{and-both}
 use Rattle.algebra.specs.WordLists.{Low}
-use Rattle.job.specs.Outcome.{refused, done, kept, _⨾_}
+use Rattle.basefold.specs.Checks.{Check}
+use Rattle.job.specs.declared.Refusal.{Refusal}
+use Rattle.job.specs.declared.Answer.the-variants.{Done, Refused}
+use Rattle.job.specs.declared.Answer.{Answer}
+use Rattle.job.specs.Outcome.{Outcome, refused, done, number, outcome, kept, _⨾_}
 use Rattle.job.specs.OutcomeLaws.{require-done, both}
 use Rattle.job.specs.Limits.{blockSize}
 use Rattle.residue.specs.Residues.{P}
 use Rattle.residue.specs.Scans.{allBelow}
 use Rattle.residue.specs.ScanLaws.{all-below}
+use Rattle.parameters.specs.Lent.{codeword}
 use Rattle.parameters.specs.Parameters.{limits, rowLengths, rowWords, legalRow}
-use Rattle.code.specs.Encoding.{encodeLengths, judgeEncoding}
-use Rattle.open.specs.Writing.{judgeWriting, writeLengths, inputLengths, bufferLengths, inputWords, valueWord, openingWords}
-use Rattle.verify.specs.Verdicts.{numbers, numbersOf}
-use Rattle.verify.specs.Verifying.{queriesOk, verification}
+use Rattle.code.specs.Encoding.{encodeLengths, judgeEncoding, Encoded}
+use Rattle.open.specs.Writing.{judgeWriting, writeLengths, inputLengths, bufferLengths, inputWords, valueWord, openingWords, outcome as wrote, Wrote}
+use Rattle.open.specs.declared.Written.{Written}
+use Rattle.open.specs.declared.Written.the-variants.{Value, Refused as NotWritten}
+use Rattle.verdict.specs.Verdicts.{numbers, numbersOf}
+use Rattle.verify.specs.Verifying.{verification}
 use Rattle.verify.specs.declared.Verdict.{Verdict}
-use Rattle.laws.specs.Calls.{LegalRow, encoded}
+use Rattle.laws.specs.Calls.{LegalRow}
 use Rattle.laws.specs.Openings.{opening-accepted}
+use Rattle.laws.specs.Commit.{OpenVerify, CommitOpenVerify, NothingRefused}
 
--- no refusal is due, with a block of n words, an opening of o and a work buffer of s
-pub record Fine (d c : ℕ) (g t t' m z r us : List ℕ) (n o s : ℕ) : Type 0 where
-  pub encodes : judgeEncoding d c g t t' m n ≡ done tt
-  pub writes : judgeWriting d c g t t' m z r o s ≡ done tt
-  pub asks : queriesOk d c us ≡ true
+-- of two outcomes in turn: the value and the buffer of the first, or its refusal
+after-value : (j : Outcome (Unit {0})) (v : ℕ) (O : List ℕ) (f : ℕ → List ℕ → Outcome (Option Check)) {y : ℕ} (o : List ℕ) {o' : List ℕ} → done y ≡ j ⨾ done v → o' ≡ kept j o O
+    → numbersOf (f y o') ≡ numbersOf (j ⨾ f v O)
+after-value (refused n) v O f o p q = absurd (let z : _≡_ {A = ℕ} 0 1 = cc in omega arith)
+after-value (done tt) v O f {y} o p q = let same : y ≡ v = cc in ap₂ (λ a b. numbersOf (f a b)) same q
 
-abbrev pub Accepted : (d c : ℕ) (g t t' m z r us : List ℕ) (n o s : ℕ) → Verdict → Type 0
-Accepted d c g t t' m z r us n o s v = Fine d c g t t' m z r us n o s → numbers v ≡ (0, 0, 0)
+after-refusal : (j : Outcome (Unit {0})) (v : ℕ) (next : Outcome (Option Check)) {n : ℕ} → refused n ≡ j ⨾ done v → (n, 0, 0) ≡ numbersOf (j ⨾ next)
+after-refusal (refused k) v next {n} e = let same : n ≡ k = cc in ap (λ x. (x, 0, 0)) same
+after-refusal (done tt) v next e = absurd (let z : _≡_ {A = ℕ} 0 1 = cc in omega arith)
 
-module _ {d c : ℕ} {g t t' m z r us : List ℕ} {n o s : ℕ} (𝓕 : Fine d c g t t' m z r us n o s) where
+-- what a function that matches on the writer's answer leaves
+module _ {d c : ℕ} {g t t' m z r us w o s o' s' : List ℕ} {a : Written} (p : Wrote d c g t t' m z r o s a o' s') where
+  pub opened : {y : ℕ} {v : Verdict} → a ≡ Value y → numbers v ≡ numbersOf (verification d c g t t' w z y r us o') → OpenVerify d c g t t' m z r us w o s v o' s'
+  opened e h =
+      record {
+        verdict = h ∙ after-value (judgeWriting d c g t t' m z r (length o) (length s)) (valueWord m z) (openingWords g t t' m z r) (λ y b. verification d c g t t' w z y r us b) o (ap wrote (sym e) ∙ p .answer) (p .result);
+        opening = p .result;
+        work = p .work;
+      }
+
+  pub not-opened : {n : Refusal} {v : Verdict} → a ≡ NotWritten n → numbers v ≡ (number n, 0, 0) → OpenVerify d c g t t' m z r us w o s v o' s'
+  not-opened e h = record { verdict = h ∙ after-refusal (judgeWriting d c g t t' m z r (length o) (length s)) (valueWord m z) _ (ap wrote (sym e) ∙ p .answer); opening = p .result; work = p .work }
+
+-- and one that matches on the encoder's
+module _ {d c : ℕ} {g t t' m z r us w o s w' : List ℕ} {a : Answer} (p : Encoded d c g t t' m w a w') where
+  pub committed : {v : Verdict} {o' s' : List ℕ} → a ≡ Done → OpenVerify d c g t t' m z r us w' o s v o' s' → CommitOpenVerify d c g t t' m z r us w o s v w' o' s'
+  committed e h =
+      let k = judgeWriting d c g t t' m z r (length o) (length s) in
+      let honestly : List ℕ → Outcome (Option Check) = λ b. verification d c g t t' b z (valueWord m z) r us (openingWords g t t' m z r) in
+      let f : done tt ≡ judgeEncoding d c g t t' m (length w) = ap outcome (sym e) ∙ p .answer in
+      let same : w' ≡ codeword d g t t' m = p .result ∙ sym (ap (λ x. kept x w (codeword d g t t' m)) f) in
+      record {
+        verdict = h .verdict ∙ ap (λ b. numbersOf (k ⨾ honestly b)) same ∙ ap (λ x. numbersOf (x ⨾ k ⨾ honestly (codeword d g t t' m))) f;
+        block = p .result;
+        opening = h .opening ∙ ap (λ x. kept (x ⨾ k) o (openingWords g t t' m z r)) f;
+        work = h .work ∙ ap (λ x. kept (x ⨾ k) s (replicate (length s) 0)) f;
+      }
+
+  pub not-committed : {n : Refusal} {v : Verdict} → a ≡ Refused n → numbers v ≡ (number n, 0, 0) → CommitOpenVerify d c g t t' m z r us w o s v w' o s
+  not-committed {n} e h =
+      let k = judgeWriting d c g t t' m z r (length o) (length s) in
+      let honestly : List ℕ → Outcome (Option Check) = λ b. verification d c g t t' b z (valueWord m z) r us (openingWords g t t' m z r) in
+      let f : refused (number n) ≡ judgeEncoding d c g t t' m (length w) = ap outcome (sym e) ∙ p .answer in
+      record {
+        verdict = h ∙ ap (λ x. numbersOf (x ⨾ k ⨾ honestly (codeword d g t t' m))) f;
+        block = p .result;
+        opening = ap (λ x. kept (x ⨾ k) o (openingWords g t t' m z r)) f;
+        work = ap (λ x. kept (x ⨾ k) s (replicate (length s) 0)) f;
+      }
+
+module _ {d c : ℕ} {g t t' m z r us : List ℕ} {n o s : ℕ} (𝓕 : NothingRefused d c g t t' m z r us n o s) where
   within : (limits d c ≡ done tt) × (encodeLengths d c (length g) (length t) (length t') (length m) n ≡ true)
       × (rowWords g t t' && allBelow m ≡ true) × (legalRow g t t' ≡ done tt)
   unfolding judgeEncoding
@@ -63,19 +115,13 @@ module _ {d c : ℕ} {g t t' m z r us : List ℕ} {n o s : ℕ} (𝓕 : Fine d c
       let w = and-both (allBelow z) (allBelow r) (and-both (allBelow m) _ (and-both (rowWords g t t') (inputWords m z r) (e .0) .1) .1) in
       (eqb-true _ _ (zr .0), eqb-true _ _ (zr .1), all-below z (w .0), all-below r (w .1))
 
-  -- the block, the value and the opening as they were left
-  pub accepted : (old before : List ℕ) {block opening : List ℕ} {y : ℕ} → block ≡ kept (judgeEncoding d c g t t' m n) old (encoded d g t t' m)
-      → opening ≡ kept (judgeWriting d c g t t' m z r o s) before (openingWords g t t' m z r) → done y ≡ judgeWriting d c g t t' m z r o s ⨾ done (valueWord m z)
-      → numbersOf (verification d c g t t' block z y r us opening) ≡ (0, 0, 0)
-  accepted old before {block} {opening} {y} p q e =
-      let b = p ∙ ap (λ x. kept x old (encoded d g t t' m)) (𝓕 .encodes) in
-      let w = q ∙ ap (λ x. kept x before (openingWords g t t' m z r)) (𝓕 .writes) in
-      let v : done y ≡ done (valueWord m z) = e ∙ ap (λ x. x ⨾ done (valueWord m z)) (𝓕 .writes) in
-      ap₂ (λ x k. numbersOf (verification d c g t t' x z y r us k)) b w
-      ∙ opening-accepted d c g t t' lent-row m z r us (sizes .1) (asked .0) (asked .1) (asked .2) (asked .3) (𝓕 .asks) y cc
+  honest : numbersOf (verification d c g t t' (codeword d g t t' m) z (valueWord m z) r us (openingWords g t t' m z r)) ≡ (0, 0, 0)
+  honest = opening-accepted d c g t t' lent-row m z r us (sizes .1) (asked .0) (asked .1) (asked .2) (asked .3) (𝓕 .asks) (valueWord m z) refl
 
-  -- writing does not refuse
-  pub not-refused : {k : ℕ} → refused k ≡ judgeWriting d c g t t' m z r o s ⨾ done (valueWord m z) → ⊥
-  not-refused {k} e =
-      let v : refused k ≡ done (valueWord m z) = e ∙ ap (λ x. x ⨾ done (valueWord m z)) (𝓕 .writes) in
-      let x : _≡_ {A = ℕ} 0 1 = cc in omega arith
+-- wherever no refusal is due, the verdict is 0
+pub commit-accepted : {d c : ℕ} {g t t' m z r us w o s : List ℕ} {v : Verdict} {w' o' s' : List ℕ} → CommitOpenVerify d c g t t' m z r us w o s v w' o' s'
+    → NothingRefused d c g t t' m z r us (length w) (length o) (length s) → numbers v ≡ (0, 0, 0)
+commit-accepted {d} {c} {g} {t} {t'} {m} {z} {r} {us} p f =
+    p .verdict
+    ∙ ap₂ (λ a b. numbersOf (a ⨾ b ⨾ verification d c g t t' (codeword d g t t' m) z (valueWord m z) r us (openingWords g t t' m z r))) (f .encodes) (f .writes)
+    ∙ honest f

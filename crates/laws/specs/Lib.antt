@@ -1,11 +1,20 @@
 -- What the jobs promise together, over the definitions that their contracts cite.
---     Calls      which row and diagonals are legal; what encoding and folding write
---     Folds      fold-law, two-challenge-law
---     Openings   opening-accepted, opening-fails
---     Honest     accepted: what encode, write and verify leave one after the other
---     Starred    the numbers that are proved, as one table
+--     Calls, Commit, Equations   THE DEFINITIONS: legal row and diagonals, and calls on them; committing, opening and verifying in turn; what the verifier compares
+--     CallLaws, NotRefused       what is known of a legal row; which calls are refused by none of 1 to 6
+--     Folds                      fold-law, two-challenge-law
+--     FoldCalls                  fold-law-calls, two-challenge-calls: the same, said of calls
+--     Openings                   opening-accepted, opening-fails
+--     Accepts                    accepts-exactly, rejects-exactly: when the verifier answers 0, and when it names a check
+--     Honest                     commit-accepted: committing, opening and verifying in turn answers 0
+--     Starred                    the numbers that are proved, as one table
 pub mod Calls
+pub mod CallLaws
+pub mod NotRefused
 pub mod Folds
+pub mod FoldCalls
 pub mod Openings
+pub mod Equations
+pub mod Accepts
+pub mod Commit
 pub mod Honest
 pub mod Starred

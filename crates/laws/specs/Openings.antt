@@ -24,12 +24,13 @@ use Rattle.job.specs.Outcome.{done, _⨾_}
 use Rattle.job.specs.Limits.{blockSize}
 use Rattle.residue.specs.Residues.{P, F, el, word}
 use Rattle.residue.specs.ScanLaws.{below-all}
-use Rattle.parameters.specs.Lent.{lent, Coding}
+use Rattle.parameters.specs.Lent.{lent, Coding, codeword}
 use Rattle.open.specs.Laws.{length-opening}
 use Rattle.open.specs.Writing.{openingWords, valueWord}
-use Rattle.verify.specs.Verdicts.{Numbers, numbersOf}
-use Rattle.verify.specs.Verifying.{most, openedLengths, openedWords, queriesOk, judgeVerifying, verification}
-use Rattle.laws.specs.Calls.{LegalRow, coding-of, lengths-of, encoded}
+use Rattle.verdict.specs.Verdicts.{Numbers, numbersOf}
+use Rattle.verify.specs.Verifying.{maxQueries, openedLengths, openedWords, queriesOk, judgeVerifying, verification}
+use Rattle.laws.specs.Calls.{LegalRow}
+use Rattle.laws.specs.CallLaws.{coding-of, lengths-of}
 
 -- 20 with i = d, and 21 at depth 0
 abbrev pub failed : ℕ → Numbers
@@ -47,7 +48,7 @@ no-queries : (n : ℕ) (us : List ℕ) → length us ≡ 0 → Queries n 0 us
 no-queries n [] e = tt
 no-queries n (u ∷ us) e = absurd (omega arith)
 
-legal-queries : (n d c : ℕ) (us : List ℕ) → n ≡ c → queriesOk d c us ≡ true → Queries n d us
+pub legal-queries : (n d c : ℕ) (us : List ℕ) → n ≡ c → queriesOk d c us ≡ true → Queries n d us
 unfolding queriesOk
 legal-queries n zero c us e h = no-queries n us (eqb-true _ _ h)
 legal-queries n (suc i) c us e h =
@@ -63,7 +64,7 @@ module _ (d c : ℕ) (g t t' : List ℕ) (𝓡 : LegalRow d c g t t') (m z r us 
   rate = lengths-of 𝓡 .row
 
   abbrev w : List ℕ
-  w = encoded d g t t' m
+  w = codeword d g t t' m
 
   abbrev o : List ℕ
   o = openingWords g t t' m z r
@@ -74,7 +75,7 @@ module _ (d c : ℕ) (g t t' : List ℕ) (𝓡 : LegalRow d c g t t') (m z r us 
   legal : Legal F (lent g t t') (length (elements 𝔽₁ r))
   legal = rw depth (coded .legal)
 
-  length-w : length (encoded d g t t' m) ≡ blockSize c d
+  length-w : length (codeword d g t t' m) ≡ blockSize c d
   length-w = length-words 𝔽₁ _ ∙ length-encode F (lent g t t') d (coded .legal) (elements 𝔽₁ m) ∙ ap (λ k. k * 2 ^ d) (length-elements 𝔽₁ g ∙ rate)
 
   length-o : length (openingWords g t t' m z r) ≡ openingSize c 0 d

@@ -28,7 +28,8 @@ use Rattle.multilinear.specs.Table.{table}
 use Rattle.basefold.specs.Layout.{blockOf}
 use Rattle.basefold.specs.Written.{rounds, descend, blocks, opening}
 use mathlib.Core.Option.{some}
-use Rattle.basefold.specs.Checks.{sumCheck, finalCheck, baseCheck, foldCheck, firstFailure, checks, sumsFrom, foldHolds, foldsAt, foldsFrom, places, next, same-true, same-false, first-holds, first-fails}
+use Rattle.basefold.specs.Checks.{sumCheck, finalCheck, baseCheck, foldCheck, firstFailure, checks, sumsFrom, foldHolds, foldsAt, foldsFrom, places, next}
+use Rattle.basefold.specs.CheckLaws.{same-true, same-false, first-holds, first-fails}
 use Rattle.job.specs.Outcome.{done}
 use Rattle.job.specs.Limits.{rateOk}
 use Rattle.job.specs.declared.Refusal.the-variants.{NoCodeword}
@@ -37,12 +38,12 @@ use Rattle.residue.specs.Residues.{P, F, K, Element, el, word, inv}
 use Rattle.table.specs.Clearances.{residueOf, clearanceOf}
 use Rattle.table.specs.Jobs.{MessageOf}
 use Rattle.table.specs.Depth.{exponentTo}
-use Rattle.parameters.specs.Lent.{lent, diagonal}
+use Rattle.parameters.specs.Lent.{lent, diagonal, codeword}
 use Rattle.parameters.specs.Parameters.{rowLengths, rowWords}
 use Rattle.decode.specs.Decoding.{judgeDecoding, decodeLengths, Decoded, settled, message, none}
-use Rattle.verify.specs.Verdicts.{Numbers, numbersOf}
+use Rattle.verdict.specs.Verdicts.{Numbers, numbersOf}
 use Rattle.verify.specs.Verifying.{verification, judgeVerifying, openedLengths, openedWords, queriesOk}
-use Rattle.laws.specs.Calls.{LegalRow, encoded, folded}
+use Rattle.laws.specs.Calls.{LegalRow, foldedLevel}
 use Rattle.laws.specs.Folds.{fold-law}
 use Rattle.open.specs.Writing.{openingWords, valueWord}
 use Rattle.laws.specs.Openings.{opening-accepted, opening-fails}
@@ -90,23 +91,24 @@ Holds (decodes b c) =
 Holds (refuses b) =
     (old space : List ℕ) → length old ≡ 2 → length space ≡ 4 → Decoded 1 2 g t t' b old space (Refused NoCodeword) old (replicate (length space) 0)
 
-abbrev pub AllHold : List Case → Type 0
-AllHold [] = Unit {0}
-AllHold (c ∷ cs) = Holds c × AllHold cs
+abbrev pub AllProved : List Case → Type 0
+AllProved [] = Unit {0}
+AllProved (c ∷ cs) = Holds c × AllProved cs
 
-abbrev pub numbers : List Case
-numbers =
+abbrev pub starredNumbers : List Case
+starredNumbers =
     gives (residueOf (negsuc 0) ∷ []) (2147483646 ∷ [])
     ∷ reads (clearanceOf 1073741824) (negsuc 1073741822)
     ∷ coefficients (pos 3 ∷ pos 5 ∷ pos 4 ∷ pos 10 ∷ []) (3 ∷ 2 ∷ 1 ∷ 4 ∷ [])
-    ∷ gives (encoded 1 g t t' m) w
+    ∷ gives (codeword 1 g t t' m) w
     ∷ decodes w m
     ∷ refuses spoilt
-    ∷ gives (folded 2 0 t t' w 4) (33 ∷ 33 ∷ [])
+    ∷ gives (foldedLevel 2 0 t t' w 4) (33 ∷ 33 ∷ [])
     ∷ gives (openingWords g t t' m (3 ∷ []) (4 ∷ [])) (2147483637 ∷ 36 ∷ 152 ∷ 33 ∷ 33 ∷ 33 ∷ [])
     ∷ says (verdict 3 26 4 (0 ∷ 1 ∷ []) (2147483637 ∷ 36 ∷ 152 ∷ 33 ∷ 33 ∷ 33 ∷ [])) (0, 0, 0)
     ∷ says (verdict 3 27 4 (0 ∷ 1 ∷ []) (2147483637 ∷ 36 ∷ 152 ∷ 33 ∷ 33 ∷ 33 ∷ [])) (20, 1, 0)
     ∷ gives (openingWords g t t' m (0 ∷ []) (1 ∷ [])) (5 ∷ 0 ∷ 2147483628 ∷ 12 ∷ 12 ∷ 12 ∷ [])
+    ∷ gives (word (eq K (elements 𝔽₁ (0 ∷ [])) (elements 𝔽₁ (1 ∷ []))) ∷ []) (0 ∷ [])
     ∷ says (verdict 0 5 1 (0 ∷ []) (5 ∷ 0 ∷ 2147483628 ∷ 12 ∷ 12 ∷ 12 ∷ [])) (0, 0, 0)
     ∷ says (verdict 0 5 1 (0 ∷ []) (5 ∷ 0 ∷ 2147483628 ∷ 13 ∷ 13 ∷ 13 ∷ [])) (23, 0, 0)
     ∷ []
@@ -115,18 +117,18 @@ legal : LegalRow 1 2 g t t'
 unfolding rowLengths rowWords rateOk all all₂
 legal = record { within = refl; lengths = refl; words = refl; legal = refl }
 
-encodes : encoded 1 g t t' m ≡ w
+encodes : codeword 1 g t t' m ≡ w
 unfolding F₁ W₁ elements toWords diagonal encode generator block times zip of addZ mulZ
 encodes = refl
 
 -- a fold of w, by the law: the base codeword of 5 + 7 a
-fold-4 : folded 2 0 t t' w 4 ≡ 33 ∷ 33 ∷ []
+fold-4 : foldedLevel 2 0 t t' w 4 ≡ 33 ∷ 33 ∷ []
 unfolding F₁ W₁ elements toWords diagonal encode generator block times zip of addZ mulZ
-fold-4 = ap (λ b. folded 2 0 t t' b 4) (sym encodes) ∙ fold-law 0 2 g t t' legal m 4 refl ∙ refl
+fold-4 = ap (λ b. foldedLevel 2 0 t t' b 4) (sym encodes) ∙ fold-law 0 2 g t t' legal m 4 refl ∙ refl
 
-fold-1 : folded 2 0 t t' w 1 ≡ 12 ∷ 12 ∷ []
+fold-1 : foldedLevel 2 0 t t' w 1 ≡ 12 ∷ 12 ∷ []
 unfolding F₁ W₁ elements toWords diagonal encode generator block times zip of addZ mulZ
-fold-1 = ap (λ b. folded 2 0 t t' b 1) (sym encodes) ∙ fold-law 0 2 g t t' legal m 1 refl ∙ refl
+fold-1 = ap (λ b. foldedLevel 2 0 t t' b 1) (sym encodes) ∙ fold-law 0 2 g t t' legal m 1 refl ∙ refl
 
 coefficients-are : MessageOf (pos 3 ∷ pos 5 ∷ pos 4 ∷ pos 10 ∷ []) (3 ∷ 2 ∷ 1 ∷ 4 ∷ [])
 unfolding F₁ W₁ elements table form monomial corner row sum prod bit exponentTo of addZ mulZ
@@ -219,6 +221,11 @@ refused-3 =
     sym (ap₂ (λ b o. numbersOf (verification 1 2 g t t' b (3 ∷ []) 27 (4 ∷ []) (0 ∷ 1 ∷ []) o)) encodes written-3)
     ∙ opening-fails 1 2 g t t' legal m (3 ∷ []) (4 ∷ []) (0 ∷ 1 ∷ []) refl refl refl (low-1 3 (lit< tt)) (low-1 4 (lit< tt)) refl 27 (lit< tt) (λ e. omega (arith, e ∙ value-3))
 
+-- eq at z = 0 and r = 1
+eq-0 : word (eq K (elements 𝔽₁ (0 ∷ [])) (elements 𝔽₁ (1 ∷ []))) ∷ [] ≡ 0 ∷ []
+unfolding F₁ W₁ elements eq prod of addZ mulZ subZ negZ
+eq-0 = refl
+
 accepted-0 : verdict 0 5 1 (0 ∷ []) (5 ∷ 0 ∷ 2147483628 ∷ 12 ∷ 12 ∷ 12 ∷ []) ≡ (0, 0, 0)
 unfolding queriesOk all
 accepted-0 =
@@ -250,5 +257,5 @@ unfolding verification judgeVerifying openedLengths openedWords queriesOk rowLen
 spoilt-0 = ap (λ v. numbersOf (done v)) first-spoilt
 
 -- the claim
-pub starred : AllHold numbers
-starred = (refl, (refl, (coefficients-are, (encodes, (decodes-w, (refuses-spoilt, (fold-4, (written-3, (accepted-3, (refused-3, (written-0, (accepted-0, (spoilt-0, tt)))))))))))))
+pub starred : AllProved starredNumbers
+starred = (refl, (refl, (coefficients-are, (encodes, (decodes-w, (refuses-spoilt, (fold-4, (written-3, (accepted-3, (refused-3, (written-0, (eq-0, (accepted-0, (spoilt-0, tt))))))))))))))

@@ -1,6 +1,6 @@
 -- The block of a level: where it lies, its length and its words; and the one word v. Assumes nothing.
 use mathlib.Core.Path.{_≡_, refl, sym, ap, ap₂, _∙_}
-use mathlib.Core.Bool.{Bool, true, false}
+use mathlib.Core.Bool.{Bool, true, false, cond}
 use mathlib.Core.List.{List, [], _∷_}
 use Prim.Native.Nat.{ℕ, _+_, _*_, _-_, _^_, _≤_, _<_}
 use native.Mathlib.Omega.{arith}
@@ -11,18 +11,19 @@ use borrow.Author.Tests.{ltb-true, ltb-false, lt-ltb, le-ltb}
 use Rattle.algebra.specs.Words.{𝔽₁}
 use Rattle.algebra.specs.WordLists.{Low, low-take, low-drop, elements, elements-take, elements-drop, length-elements, getD-elements}
 use Rattle.job.specs.Limits.{blockSize}
-use Rattle.basefold.specs.Layout.{either, either-true, either-false, finalAt, blockAt, blockOf, openingSize, carried}
+use Rattle.algebra.specs.Flags.{cond-true, cond-false}
+use Rattle.basefold.specs.Layout.{finalAt, blockAt, blockOf, openingSize, carried}
 use Rattle.residue.specs.Residues.{P, F, K, el}
 use Rattle.layout.specs.LayoutLaws.{block-within}
 
 -- of the top level, and of a lower one
 pub block-top : {A : Type 0} (c d : ℕ) (w o : List A) (i : ℕ) → i ≡ d → w ≡ blockOf c 0 d w o i
 unfolding blockOf
-block-top c d w o i e = sym (either-false (take (blockSize c i) (drop (blockAt c 0 d i) o)) w (le-ltb i d (omega arith)))
+block-top c d w o i e = sym (cond-false (take (blockSize c i) (drop (blockAt c 0 d i) o)) w (le-ltb i d (omega arith)))
 
 pub block-lower : {A : Type 0} (c d : ℕ) (w o : List A) (i : ℕ) → i < d → take (blockSize c i) (drop (blockAt c 0 d i) o) ≡ blockOf c 0 d w o i
 unfolding blockOf
-block-lower c d w o i h = sym (either-true (take (blockSize c i) (drop (blockAt c 0 d i) o)) w (lt-ltb i d h))
+block-lower c d w o i h = sym (cond-true (take (blockSize c i) (drop (blockAt c 0 d i) o)) w (lt-ltb i d h))
 
 -- as it is taken from the opening, by where it begins and ends
 pub block-part : {A : Type 0} (c d : ℕ) (w o : List A) (i : ℕ) {start n : ℕ} → i < d → start ≡ blockAt c 0 d i → n ≡ blockSize c i

@@ -1,7 +1,7 @@
 // Openings verified: the verdict, with the places that a failure names.
 ghost use mathlib.Core.Path.{_≡_};
 ghost use mathlib.Core.List.{[], _∷_};
-ghost use Rattle.verify.specs.Verdicts.{numbersOf};
+ghost use Rattle.verdict.specs.Verdicts.{numbersOf};
 ghost use Rattle.verify.specs.Verifying.{verification};
 ghost use Rattle.tvarchula.specs.Replies.{triple};
 use tvarchula::answer::Reply;

@@ -11,7 +11,8 @@ use Rattle.basefold.specs.Written.{rounds, blocks, opening}
 use Rattle.basefold.specs.Descent.{length-blocks}
 use Rattle.basefold.specs.Rounds.{length-rounds}
 use Rattle.foldable.specs.Code.{Code, Legal}
-use Rattle.multilinear.specs.Rounds.{final, length-final}
+use Rattle.multilinear.specs.Rounds.{final}
+use Rattle.multilinear.specs.RoundLaws.{length-final}
 
 pub length-opening : (F : Field) (low : ℕ) (C : Code F) (m z r : List (F .ring .R)) → Legal F C (length r)
     → length (opening F low C m z r) ≡ openingSize (C .n₀) low (length r)

@@ -8,7 +8,7 @@ use lib.ListN.{length, take, drop, getD, length-take, drop-of-length-le}
 use lib.Seq.{getD-take, take-take, drop-nil}
 use Rattle.algebra.specs.Ring.{Ring, one-mul}
 use Rattle.algebra.specs.Lists.{row-ext, row-getD}
-use Rattle.multilinear.specs.Polynomial.{word, poly, fixed-nil}
+use Rattle.multilinear.specs.Polynomial.{coefficient, poly, fixed-nil}
 use Rattle.multilinear.specs.Corners.{eq, eq-nil}
 use Rattle.multilinear.specs.Rounds.{h}
 use Rattle.multilinear.specs.Folding.{folded, length-folded, h-folded}
@@ -22,7 +22,7 @@ module _ (K : Ring) where
   -- with no challenge put in, all of the message is left
   folded-none : (m z : List R) (i : ℕ) → length m ≡ 2 ^ (0 +ℕ i) → folded K 0 m z [] i ≡ m
   unfolding folded
-  folded-none m z i e = rw (drop-nil i, ← e) (row-ext (length m) _ _ (λ a l. fixed-nil K (0 +ℕ i) (word K m) a) ∙ row-getD m 𝟘)
+  folded-none m z i e = rw (drop-nil i, ← e) (row-ext (length m) _ _ (λ a l. fixed-nil K (0 +ℕ i) (coefficient K m) a) ∙ row-getD m 𝟘)
 
   -- h in all variables of a message, from its halves
   pub h-halves : (m y : List R) (i : ℕ) (X : R) → length y ≡ suc i → length m ≡ 2 ^ suc i

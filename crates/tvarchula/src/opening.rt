@@ -1,6 +1,6 @@
 // Writing and verifying an opening.
 ghost use mathlib.Core.Path.{_≡_};
-ghost use Rattle.verify.specs.Verdicts.{numbers, numbersOf};
+ghost use Rattle.verdict.specs.Verdicts.{numbers, numbersOf};
 ghost use Rattle.verify.specs.Verifying.{verification};
 ghost use Rattle.tvarchula.specs.Replies.{triple, WriteCall};
 use crate::answer::Reply;

@@ -6,7 +6,8 @@ use mathlib.Core.Option.{Option, none, some, orElse}
 use Prim.Native.Nat.{ℕ, zero, suc, _<_}
 use native.Mathlib.Omega.{arith}
 use Rattle.algebra.specs.Lists.{row}
-use Rattle.basefold.specs.Checks.{Check, firstFailure, first-append, first-holds, first-fails, first-none}
+use Rattle.basefold.specs.Checks.{Check, firstFailure}
+use Rattle.basefold.specs.CheckLaws.{first-append, first-holds, first-fails, first-none}
 
 -- a failure in the first part decides
 pub append-fails : {x : Check} (a b : List (Check × Bool)) → some x ≡ firstFailure a → some x ≡ firstFailure (a ++ b)

@@ -13,7 +13,9 @@ use Rattle.algebra.specs.WordLists.{elements, length-elements, getD-elements}
 use Rattle.foldable.specs.Code.{Code, line}
 use Rattle.foldable.specs.Encode.{double}
 use Rattle.foldable.specs.Line.{line-cross}
-use Rattle.basefold.specs.Layout.{either, either-true, either-false, blockOf}
+use mathlib.Core.Bool.{cond}
+use Rattle.algebra.specs.Flags.{cond-true, cond-false}
+use Rattle.basefold.specs.Layout.{blockOf}
 use Rattle.basefold.specs.Honest.{next-within}
 use Rattle.basefold.specs.Checks.{next, same, foldHolds}
 use Rattle.job.specs.Limits.{blockSize, diagonalsSize}
@@ -57,17 +59,17 @@ unfolding next
 next-zero n zero u e = refl
 next-zero n (suc i) u e = absurd (omega arith)
 
-next-at : (n i u : ℕ) → next n (suc i) u ≡ either (leb (n * 2 ^ (suc i - 1)) u) (u - n * 2 ^ (suc i - 1)) u
+next-at : (n i u : ℕ) → next n (suc i) u ≡ cond (leb (n * 2 ^ (suc i - 1)) u) (u - n * 2 ^ (suc i - 1)) u
 unfolding next
-next-at n i u = let one : suc i - 1 ≡ i = omega arith in sym (ap (λ k. either (leb (n * 2 ^ k) u) (u - n * 2 ^ k) u) one)
+next-at n i u = let one : suc i - 1 ≡ i = omega arith in sym (ap (λ k. cond (leb (n * 2 ^ k) u) (u - n * 2 ^ k) u) one)
 
 pub next-less : (n i u : ℕ) {k : ℕ} → (i ≡ 0 → ⊥) → k ≡ blockSize n (i - 1) → k ≤ u → u - k ≡ next n i u
 next-less n zero u z e h = absurd (z refl)
-next-less n (suc i) u {k} z e h = sym (next-at n i u ∙ rw (← e) (either-true (u - k) u (le-leb k u h)))
+next-less n (suc i) u {k} z e h = sym (next-at n i u ∙ rw (← e) (cond-true (u - k) u (le-leb k u h)))
 
 pub next-same : (n i u : ℕ) {k : ℕ} → (i ≡ 0 → ⊥) → k ≡ blockSize n (i - 1) → u < k → u ≡ next n i u
 next-same n zero u z e h = absurd (z refl)
-next-same n (suc i) u {k} z e h = sym (next-at n i u ∙ rw (← e) (either-false (u - k) u (lt-leb k u h)))
+next-same n (suc i) u {k} z e h = sym (next-at n i u ∙ rw (← e) (cond-false (u - k) u (lt-leb k u h)))
 
 -- a place of the block below level i, and where it goes on, stays one
 pub start-below : (n i u : ℕ) → 0 < i → PlaceBelow n i u → u < blockSize n (i - 1)

@@ -1,5 +1,3 @@
-use mathlib.Core.Path.{ap, _∙_}
-use Rattle.tvarchula.specs.Replies.{reply}
 use borrow.Author.Needs.{needs}
 use Rattle.tvarchula.proofs.coding.tv_encode.Statement.{statement}
 use Rattle.tvarchula.proofs.coding.tv_encode.Tie as tie
@@ -14,7 +12,7 @@ same-length : tie.Need-same-length
 same-length c = search needs
 
 returns : tie.Need-returns
-returns c = let e = c .before .before .before .encode .ensures in record { answer = c .plain .ensures ∙ ap reply (e .answer); result = e .result }
+returns c = record { job = c .before .before .before .encode .result; answer = c .plain .ensures; result = c .before .before .before .encode .ensures }
 
 pub tv-encode-spec : {M : Type 1} → statement M
 tv-encode-spec = tie.close (tie.spec encode-requires plain-requires same-length returns)

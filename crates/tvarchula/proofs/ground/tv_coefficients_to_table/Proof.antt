@@ -1,5 +1,3 @@
-use mathlib.Core.Path.{ap, _∙_}
-use Rattle.tvarchula.specs.Replies.{reply}
 use borrow.Author.Needs.{needs}
 use Rattle.tvarchula.proofs.ground.tv_coefficients_to_table.Statement.{statement}
 use Rattle.tvarchula.proofs.ground.tv_coefficients_to_table.Tie as tie
@@ -17,7 +15,7 @@ same-length-2 : tie.Need-same-length-2
 same-length-2 c = search needs
 
 returns : tie.Need-returns
-returns c = let e = c .before .before .before .before .coefficients-to-table .ensures in record { answer = c .plain .ensures ∙ ap reply (e .answer); clearances = e .clearances; cleared = e .cleared }
+returns c = record { job = c .before .before .before .before .coefficients-to-table .result; answer = c .plain .ensures; result = c .before .before .before .before .coefficients-to-table .ensures }
 
 pub tv-coefficients-to-table-spec : {M : Type 1} → statement M
 tv-coefficients-to-table-spec =

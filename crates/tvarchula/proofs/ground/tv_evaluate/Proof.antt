@@ -19,13 +19,20 @@ number-requires c κs = search needs
 
 returns : tie.Need-returns
 returns c =
-    let e = ap evaluated (sym (c .before .e .given .1)) ∙ c .before .before .before .evaluate .ensures in
-    record { answer = ap reply e; result = ap (λ o. given o (c .before .before .before .before .before .before .args .value .now)) e }
+    let e = c .before .before .before .evaluate in
+    let is = sym (c .before .e .given .1) in
+    record { job = e .result; answer = ap (λ x. reply (evaluated x)) is; result = e .ensures; single = ap (λ x. given (evaluated x) (c .before .before .before .before .before .before .args .value .now)) is }
 
 returns-2 : tie.Need-returns-2
 returns-2 c =
-    let e = ap evaluated (sym (c .before .before .e2 .given .1)) ∙ c .before .before .before .before .evaluate .ensures in
-    record { answer = (λ i. record { number = c .number .ensures i; first = 0; second = 0 }) ∙ ap reply e; result = ap (λ o. given o (c .before .before .before .before .before .before .before .args .value .now)) e }
+    let e = c .before .before .before .before .evaluate in
+    let is = sym (c .before .before .e2 .given .1) in
+    record {
+      job = e .result;
+      answer = (λ i. record { number = c .number .ensures i; first = 0; second = 0 }) ∙ ap (λ x. reply (evaluated x)) is;
+      result = e .ensures;
+      single = ap (λ x. given (evaluated x) (c .before .before .before .before .before .before .before .args .value .now)) is;
+    }
 
 pub tv-evaluate-spec : {M : Type 1} → statement M
 tv-evaluate-spec =

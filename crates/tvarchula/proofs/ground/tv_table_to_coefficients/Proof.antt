@@ -1,5 +1,3 @@
-use mathlib.Core.Path.{ap, _∙_}
-use Rattle.tvarchula.specs.Replies.{reply}
 use borrow.Author.Needs.{needs}
 use Rattle.tvarchula.proofs.ground.tv_table_to_coefficients.Statement.{statement}
 use Rattle.tvarchula.proofs.ground.tv_table_to_coefficients.Tie as tie
@@ -14,7 +12,7 @@ same-length : tie.Need-same-length
 same-length c = search needs
 
 returns : tie.Need-returns
-returns c = let e = c .before .before .before .table-to-coefficients .ensures in record { answer = c .plain .ensures ∙ ap reply (e .answer); message = e .message }
+returns c = record { job = c .before .before .before .table-to-coefficients .result; answer = c .plain .ensures; result = c .before .before .before .table-to-coefficients .ensures }
 
 pub tv-table-to-coefficients-spec : {M : Type 1} → statement M
 tv-table-to-coefficients-spec =

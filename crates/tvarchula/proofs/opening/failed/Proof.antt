@@ -1,6 +1,6 @@
 use mathlib.Core.Path.{sym, ap}
 use Rattle.tvarchula.specs.Replies.{given, triple}
-use Rattle.verify.specs.Verdicts.{checkNumbers, check}
+use Rattle.verdict.specs.Verdicts.{checkNumbers, check}
 use borrow.Author.Needs.{needs}
 use Rattle.tvarchula.proofs.opening.failed.Statement.{statement}
 use Rattle.tvarchula.proofs.opening.failed.Tie as tie

@@ -1,7 +1,7 @@
 use mathlib.Core.Path.{sym, ap, _∙_}
 use Rattle.job.specs.Outcome.{outcome}
 use Rattle.tvarchula.specs.Replies.{given, triple}
-use Rattle.verify.specs.Verdicts.{numbers}
+use Rattle.verdict.specs.Verdicts.{numbers}
 use borrow.Author.Needs.{needs}
 use Rattle.tvarchula.proofs.opening.told.Statement.{statement}
 use Rattle.tvarchula.proofs.opening.told.Tie as tie

@@ -25,9 +25,14 @@ same-length-2 c = search needs
 
 returns : tie.Need-returns
 returns c =
-    let w = c .before .before .before .before .before .before .before .write-opening .ensures in
-    let e = ap wrote (sym (c .before .w .given .1)) ∙ w .answer in
-    record { answer = ap reply e; single = ap (λ o. given o (c .before .before .before .before .before .before .before .before .before .before .before .before .before .before .before .before .before .before .args .value .now)) e; result = w .result; cleared = w .work }
+    let w = c .before .before .before .before .before .before .before .write-opening in
+    let is = sym (c .before .w .given .1) in
+    record {
+      job = w .result;
+      answer = ap (λ x. reply (wrote x)) is;
+      result = w .ensures;
+      single = ap (λ x. given (wrote x) (c .before .before .before .before .before .before .before .before .before .before .before .before .before .before .before .before .before .before .args .value .now)) is;
+    }
 
 same-length-3 : tie.Need-same-length-3
 same-length-3 c = search needs
@@ -37,13 +42,13 @@ same-length-4 c = search needs
 
 returns-2 : tie.Need-returns-2
 returns-2 c =
-    let w = c .before .before .before .before .before .before .before .before .write-opening .ensures in
-    let e = ap wrote (sym (c .before .before .w2 .given .1)) ∙ w .answer in
+    let w = c .before .before .before .before .before .before .before .before .write-opening in
+    let is = sym (c .before .before .w2 .given .1) in
     record {
-      answer = (λ i. record { number = c .number .ensures i; first = 0; second = 0 }) ∙ ap reply e;
-      single = ap (λ o. given o (c .before .before .before .before .before .before .before .before .before .before .before .before .before .before .before .before .before .before .before .args .value .now)) e;
-      result = w .result;
-      cleared = w .work;
+      job = w .result;
+      answer = (λ i. record { number = c .number .ensures i; first = 0; second = 0 }) ∙ ap (λ x. reply (wrote x)) is;
+      result = w .ensures;
+      single = ap (λ x. given (wrote x) (c .before .before .before .before .before .before .before .before .before .before .before .before .before .before .before .before .before .before .before .args .value .now)) is;
     }
 
 pub tv-write-opening-spec : {M : Type 1} → statement M

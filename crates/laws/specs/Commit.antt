@@ -1,0 +1,35 @@
+-- Encoding, writing and verifying, one after the other on the same buffers: what they leave, for every input. Definitions only. Assumes nothing.
+use mathlib.Core.Path.{_≡_}
+use mathlib.Core.Bool.{true}
+use mathlib.Core.List.{List}
+use Prim.Native.Nat.{ℕ}
+use lib.ListN.{length, replicate}
+use Rattle.job.specs.Outcome.{done, kept, _⨾_}
+use Rattle.parameters.specs.Lent.{codeword}
+use Rattle.code.specs.Encoding.{judgeEncoding}
+use Rattle.open.specs.Writing.{judgeWriting, valueWord, openingWords}
+use Rattle.verdict.specs.Verdicts.{numbers, numbersOf}
+use Rattle.verify.specs.Verifying.{queriesOk, verification}
+use Rattle.verify.specs.declared.Verdict.{Verdict}
+
+-- opening and then verifying, with the block w: verdict v, opening o' and work s', which were o and s. The first refusal is the verdict, and else it
+-- is that on the opening as it is defined, with f(z)
+pub record OpenVerify (d c : ℕ) (g t t' m z r us w o s : List ℕ) (v : Verdict) (o' s' : List ℕ) : Type 0 where
+  pub verdict : numbers v ≡ numbersOf (judgeWriting d c g t t' m z r (length o) (length s) ⨾ verification d c g t t' w z (valueWord m z) r us (openingWords g t t' m z r))
+  pub opening : o' ≡ kept (judgeWriting d c g t t' m z r (length o) (length s)) o (openingWords g t t' m z r)
+  pub work : s' ≡ kept (judgeWriting d c g t t' m z r (length o) (length s)) s (replicate (length s) 0)
+
+-- before that, encoding: block w', which was w
+pub record CommitOpenVerify (d c : ℕ) (g t t' m z r us w o s : List ℕ) (v : Verdict) (w' o' s' : List ℕ) : Type 0 where
+  pub verdict : numbers v
+      ≡ numbersOf (judgeEncoding d c g t t' m (length w) ⨾ judgeWriting d c g t t' m z r (length o) (length s)
+      ⨾ verification d c g t t' (codeword d g t t' m) z (valueWord m z) r us (openingWords g t t' m z r))
+  pub block : w' ≡ kept (judgeEncoding d c g t t' m (length w)) w (codeword d g t t' m)
+  pub opening : o' ≡ kept (judgeEncoding d c g t t' m (length w) ⨾ judgeWriting d c g t t' m z r (length o) (length s)) o (openingWords g t t' m z r)
+  pub work : s' ≡ kept (judgeEncoding d c g t t' m (length w) ⨾ judgeWriting d c g t t' m z r (length o) (length s)) s (replicate (length s) 0)
+
+-- no refusal is due, with a block of n words, an opening of o and a work buffer of s
+pub record NothingRefused (d c : ℕ) (g t t' m z r us : List ℕ) (n o s : ℕ) : Type 0 where
+  pub encodes : judgeEncoding d c g t t' m n ≡ done tt
+  pub writes : judgeWriting d c g t t' m z r o s ≡ done tt
+  pub asks : queriesOk d c us ≡ true
