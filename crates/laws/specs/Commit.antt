@@ -10,7 +10,7 @@ use Rattle.code.specs.Encoding.{judgeEncoding}
 use Rattle.open.specs.Writing.{judgeWriting, valueWord, openingWords}
 use Rattle.verdict.specs.Verdicts.{numbers, numbersOf}
 use Rattle.verify.specs.Verifying.{queriesOk, verification}
-use Rattle.verify.specs.declared.Verdict.{Verdict}
+use Rattle.verdict.specs.declared.Verdict.{Verdict}
 
 -- opening and then verifying, with the block w: verdict v, opening o' and work s', which were o and s. The first refusal is the verdict, and else it
 -- is that on the opening as it is defined, with f(z)

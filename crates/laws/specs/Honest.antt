@@ -25,12 +25,12 @@ use Rattle.residue.specs.ScanLaws.{all-below}
 use Rattle.parameters.specs.Lent.{codeword}
 use Rattle.parameters.specs.Parameters.{limits, rowLengths, rowWords, legalRow}
 use Rattle.code.specs.Encoding.{encodeLengths, judgeEncoding, Encoded}
-use Rattle.open.specs.Writing.{judgeWriting, writeLengths, inputLengths, bufferLengths, inputWords, valueWord, openingWords, outcome as wrote, Wrote}
+use Rattle.open.specs.Writing.{judgeWriting, writeLengths, inputLengths, bufferLengths, inputWords, valueWord, openingWords, writtenOutcome as wrote, Wrote}
 use Rattle.open.specs.declared.Written.{Written}
 use Rattle.open.specs.declared.Written.the-variants.{Value, Refused as NotWritten}
 use Rattle.verdict.specs.Verdicts.{numbers, numbersOf}
 use Rattle.verify.specs.Verifying.{verification}
-use Rattle.verify.specs.declared.Verdict.{Verdict}
+use Rattle.verdict.specs.declared.Verdict.{Verdict}
 use Rattle.laws.specs.Calls.{LegalRow}
 use Rattle.laws.specs.Openings.{opening-accepted}
 use Rattle.laws.specs.Commit.{OpenVerify, CommitOpenVerify, NothingRefused}

@@ -52,8 +52,8 @@ pub legal-queries : (n d c : ℕ) (us : List ℕ) → n ≡ c → queriesOk d c 
 unfolding queriesOk
 legal-queries n zero c us e h = no-queries n us (eqb-true _ _ h)
 legal-queries n (suc i) c us e h =
-    let some = and-both (leb 1 (length us)) (leb (length us) most && all (λ u. ltb u (blockSize c i)) us) h in
-    all-queries n c i us e (and-both (leb (length us) most) (all (λ u. ltb u (blockSize c i)) us) (some .1) .1)
+    let some = and-both (leb 1 (length us)) (leb (length us) maxQueries && all (λ u. ltb u (blockSize c i)) us) h in
+    all-queries n c i us e (and-both (leb (length us) maxQueries) (all (λ u. ltb u (blockSize c i)) us) (some .1) .1)
 
 module _ (d c : ℕ) (g t t' : List ℕ) (𝓡 : LegalRow d c g t t') (m z r us : List ℕ) (lm : length m ≡ 2 ^ d) (lz : length z ≡ d) (lr : length r ≡ d)
     (low-z : Low P z) (low-r : Low P r) (legal-us : queriesOk d c us ≡ true) where
