@@ -9,7 +9,7 @@ use lib.Seq.{getD-take, getD-drop, getD-append-add}
 use Rattle.algebra.specs.Order.{lt-or-ge}
 use Rattle.algebra.specs.Lists.{put}
 
--- from place a to place b
+-- the two lists agree from place a to place b
 pub record Agrees (a b : ℕ) (new out : List ℕ) : Type 0 where
   pub at : (k : ℕ) → a ≤ k → k < b → getD out k 0 ≡ getD new k 0
 
@@ -48,7 +48,7 @@ module _ (a : ℕ) (xs o : List ℕ) (fits : a + length xs ≤ length o) where
   pub agrees-above : {l h : ℕ} {new : List ℕ} → a + length xs ≤ l → Agrees l h new o → Agrees l h new (put a xs o)
   agrees-above s p = record { at = λ k x y. after (k - (a + length xs)) k (omega arith) ∙ p .at k x y }
 
-  -- and what is written goes on from there
+  -- a part that begins where the lists agree so far
   pub agrees-more : {l : ℕ} {new : List ℕ} (e : ℕ) → a + length xs ≡ e → Agrees l a new o → ((j : ℕ) → j < length xs → getD xs j 0 ≡ getD new (a + j) 0)
       → Agrees l e new (put a xs o)
   agrees-more {l} {new} e q p same =

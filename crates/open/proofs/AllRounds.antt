@@ -84,7 +84,7 @@ module _ (d : ℕ) (g t t' m z r : List ℕ) (n k : ℕ) (𝓦 : WriteInput d g 
   sized : length (elements 𝔽₁ m) ≡ 2 ^ length (elements 𝔽₁ r)
   sized = length-elements 𝔽₁ m ∙ 𝓦 .message ∙ ap (λ i. 2 ^ i) (sym lr)
 
-  -- what stands where
+  -- what the opening is to hold at the places of a round, of a block and of v
   length-target : length target ≡ openingSize (length g) 0 d
   length-target = length-words 𝔽₁ _ ∙ length-opening F 0 (lent g t t') ms zs rs legal ∙ ap₂ (λ a b. openingSize a 0 b) (length-elements 𝔽₁ g) lr
 

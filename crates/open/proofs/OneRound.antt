@@ -14,7 +14,7 @@ use Rattle.steps.specs.Steps.{sentWords, TakeChallengeResult, GiveBlockInput}
 use Rattle.steps.specs.StepLaws.{length-leftOf, front-is}
 use Rattle.open.specs.Rounds.{RoundInput, RoundResult}
 
--- whichever challenge was taken
+-- the block can be written whichever challenge was taken
 pub block-input : (d i : ℕ) (w : Residue) (g t t' y u : List ℕ) (n : ℕ) (s : List ℕ) → RoundInput d i w g t t' y u n s → (z r : List ℕ) (v : Residue) (s' : List ℕ) → TakeChallengeResult i w z r s v s' → (k : ℕ) → k ≡ n
     → GiveBlockInput d i g t t' k s'
 block-input d i w g t t' y u n s 𝓡 z r v s' 𝓣 k e =

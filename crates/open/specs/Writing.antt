@@ -71,7 +71,7 @@ pub record WriteInput (d : ℕ) (g t t' m z r : List ℕ) (o s : ℕ) : Type 0 w
   pub opens : o ≡ openingSize (length g) 0 d
   pub room : s ≡ 2 * 2 ^ d
 
--- and what it leaves: the value v, the opening o' and the work s' of n words
+-- what the work leaves: the value v, the opening o' and the work buffer s' of n words
 pub record WriteResult (g t t' m z r : List ℕ) (n : ℕ) (v : Residue) (o' s' : List ℕ) : Type 0 where
   pub value : v .0 ≡ valueWord m z
   pub opened : o' ≡ openingWords g t t' m z r

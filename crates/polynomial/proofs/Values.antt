@@ -19,7 +19,7 @@ use Rattle.residue.specs.Residues.{K, el, word, _⊞_, _⊠_}
 use Rattle.residue.specs.Scans.{allBelow}
 use Rattle.residue.specs.ScanLaws.{all-below}
 use Rattle.polynomial.specs.Evaluation.{Evaluates, evaluateLengths, judgeEvaluating}
-use Rattle.polynomial.specs.EvaluationLaws.{lower, half-is, length-lower, rest, left, right}
+use Rattle.polynomial.specs.EvaluationLaws.{lower, half-is, length-lower, rest, left-input, right-input}
 
 -- the top variable
 abbrev pub top : List ℕ → ℕ
@@ -65,7 +65,7 @@ module _ (m z : List ℕ) (𝓔 : Evaluates m z) (lo : 0 < length z) where
       let second : getD (take (length m - length m / 2) (drop (length m / 2) m)) 0 0 ≡ getD m 1 0 =
       ap (λ l. getD l 0 0) (rest m z 𝓔 lo) ∙ getD-drop (length m / 2) m 0 0 ∙ ap (λ k. getD m k 0) (omega (arith, half)) in
       let last-is : top z ≡ getD z 0 0 = ap (λ k. getD z k 0) (omega arith) in
-      joined (getD m 0 0) (getD m 1 0) v (sym first ∙ one-word _ (lower z) (left m z 𝓔 lo) none .1) (sym second ∙ one-word _ (lower z) (right m z 𝓔 lo) none .1)
+      joined (getD m 0 0) (getD m 1 0) v (sym first ∙ one-word _ (lower z) (left-input m z 𝓔 lo) none .1) (sym second ∙ one-word _ (lower z) (right-input m z 𝓔 lo) none .1)
       (p ∙ ap (λ x. word (el (getD m 0 0) ⊞ el x ⊠ el (getD m 1 0))) (sym last-is))
 
 -- the job's tests have passed

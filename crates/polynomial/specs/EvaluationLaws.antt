@@ -30,16 +30,16 @@ module _ (m z : List ℕ) (𝓔 : Evaluates m z) (lo : 0 < length z) where
   pub rest : take (length m - length m / 2) (drop (length m / 2) m) ≡ drop (length m / 2) m
   rest = take-all (length m - length m / 2) (drop (length m / 2) m) (omega (arith, length-drop (length m / 2) m))
 
-  pub left : Evaluates (take (length m / 2) m) (lower z)
-  left =
+  pub left-input : Evaluates (take (length m / 2) m) (lower z)
+  left-input =
       record {
         size = length-take (length m / 2) m ∙ omega (arith, half-is, twice) ∙ half-is ∙ ap (λ k. 2 ^ k) (sym length-lower);
         message = low-take (length m / 2) (𝓔 .message);
         point = lower-low;
       }
 
-  pub right : Evaluates (take (length m - length m / 2) (drop (length m / 2) m)) (lower z)
-  right =
+  pub right-input : Evaluates (take (length m - length m / 2) (drop (length m / 2) m)) (lower z)
+  right-input =
       record {
         size = ap length rest ∙ length-drop (length m / 2) m ∙ omega (arith, half-is, twice) ∙ half-is ∙ ap (λ k. 2 ^ k) (sym length-lower);
         message = low-take (length m - length m / 2) (low-drop (length m / 2) (𝓔 .message));

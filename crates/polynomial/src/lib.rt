@@ -22,7 +22,7 @@ pub enum Evaluation {
     Refused(Refusal),
 }
 
-// The line through two words at 0 and their sum at 1, at the first variable.
+// Of two words and one variable: the first word plus the variable times the second.
 fn pair(m: &[u32], z: &[u32]) -> Residue
     requires { ⌜ Evaluates (now m) (now z) × (length (now z) ≡ 1) ⌝ }
     ensures { λ v. ⌜ v .0 ≡ word (poly K (elements 𝔽₁ (now (m .entry))) (elements 𝔽₁ (now (z .entry)))) ⌝ }

@@ -32,13 +32,13 @@ module _ (a : Residue) (m : List ℕ) (𝓕 : FoldInput a m) where
   length-front : length front ≡ length m / 2
   length-front = length-words 𝔽₁ _ ∙ length-mix K half (take half (elements 𝔽₁ m)) (elem a) (drop half (elements 𝔽₁ m)) length-left length-right
 
-  length-folded : length (foldedFront (elem a) m) ≡ length m
+  length-foldedFront : length (foldedFront (elem a) m) ≡ length m
   unfolding foldedFront
-  length-folded = length-append front (drop half m) ∙ omega (arith, length-front, length-drop half m)
+  length-foldedFront = length-append front (drop half m) ∙ omega (arith, length-front, length-drop half m)
 
-  folded-at : (j : ℕ) → j < length m / 2 → getD (foldedFront (elem a) m) j 0 ≡ word (el (getD m j 0) ⊞ elem a ⊠ el (getD m (length m / 2 + j) 0))
+  foldedFront-at : (j : ℕ) → j < length m / 2 → getD (foldedFront (elem a) m) j 0 ≡ word (el (getD m j 0) ⊞ elem a ⊠ el (getD m (length m / 2 + j) 0))
   unfolding foldedFront
-  folded-at j h =
+  foldedFront-at j h =
       let E = elements 𝔽₁ m in
       List·getD-append front (drop half m) 0 j (omega (arith, length-front))
       ∙ getD-words 𝔽₁ _ j
@@ -46,9 +46,9 @@ module _ (a : Residue) (m : List ℕ) (𝓕 : FoldInput a m) where
       (getD-mix K (elem a) (take half E) (drop half E) j (omega (arith, length-left)) (omega (arith, length-right))
       ∙ ap₂ (λ x y. x ⊞ elem a ⊠ y) (getD-take half E j (K .𝟘) h ∙ getD-elements 𝔽₁ m j) (getD-drop half E j (K .𝟘) ∙ getD-elements 𝔽₁ m (half + j)))
 
-  folded-after : (j k : ℕ) → length m / 2 + j ≡ k → getD (foldedFront (elem a) m) k 0 ≡ getD m k 0
+  foldedFront-after : (j k : ℕ) → length m / 2 + j ≡ k → getD (foldedFront (elem a) m) k 0 ≡ getD m k 0
   unfolding foldedFront
-  folded-after j k e =
+  foldedFront-after j k e =
       ap (λ n. getD (foldedFront (elem a) m) n 0) (sym e)
       ∙ ap (λ n. getD (foldedFront (elem a) m) (n + j) 0) (sym length-front) ∙ getD-append-add front (drop half m) j 0 ∙ getD-drop half m j 0
       ∙ ap (λ n. getD m n 0) e
@@ -60,10 +60,10 @@ module _ (a : Residue) (m : List ℕ) (𝓕 : FoldInput a m) where
   pub fold-turn : {j : ℕ} {out : List ℕ} (v : ℕ) → j < length m / 2 → Filled j (foldedFront (elem a) m) m out
       → v ≡ word (el (getD out j 0) ⊞ elem a ⊠ el (getD out (length m / 2 + j) 0)) → Filled (j + 1) (foldedFront (elem a) m) m (set out j v)
   fold-turn {j} {out} v h p e =
-      filled-turn 0 (omega arith) length-folded p
-      (e ∙ ap₂ (λ x y. word (el x ⊞ elem a ⊠ el y)) (filled-old p j 0 (omega arith)) (filled-old p (half + j) 0 (omega arith)) ∙ sym (folded-at j h))
+      filled-turn 0 (omega arith) length-foldedFront p
+      (e ∙ ap₂ (λ x y. word (el x ⊞ elem a ⊠ el y)) (filled-old p j 0 (omega arith)) (filled-old p (half + j) 0 (omega arith)) ∙ sym (foldedFront-at j h))
 
   pub fold-end : {j : ℕ} {out : List ℕ} → j ≡ length m / 2 → Filled j (foldedFront (elem a) m) m out → out ≡ foldedFront (elem a) m
   fold-end {j} {out} e p =
-      ext-getD 0 out (foldedFront (elem a) m) (filled-length p ∙ sym length-folded)
-      (λ k l. ⊎-elim (λ h. filled-new p k 0 (omega arith) length-folded) (λ h. filled-old p k 0 (omega arith) ∙ sym (folded-after (k - half) k (omega arith))) (lt-or-ge k half))
+      ext-getD 0 out (foldedFront (elem a) m) (filled-length p ∙ sym length-foldedFront)
+      (λ k l. ⊎-elim (λ h. filled-new p k 0 (omega arith) length-foldedFront) (λ h. filled-old p k 0 (omega arith) ∙ sym (foldedFront-after (k - half) k (omega arith))) (lt-or-ge k half))

@@ -44,9 +44,9 @@ three (x ∷ y ∷ []) a b c e = absurd (omega arith)
 three (x ∷ y ∷ u ∷ []) a b c e = refl
 three (x ∷ y ∷ u ∷ v ∷ out) a b c e = absurd (omega arith)
 
--- the top variable is y
+-- where y is the top variable
 module _ (w : Residue) (z m : List ℕ) (𝓗 : HalvesInput z m) (l r y : Residue) (𝓥 : HalfValues (elements 𝔽₁ z) (elements 𝔽₁ m) l r) (t : y .0 ≡ getD z (length z - 1) 0) where
-  -- the value at k
+  -- the value at the number k, whose word is x
   at : (k : ℕ) {x v : ℕ} → x ≡ k → v ≡ word (elem w ⊠ factor (elem y) (el x) ⊠ (elem l ⊞ el x ⊠ elem r))
       → v ≡ word (roundOf (elem w) (elements 𝔽₁ m) (elements 𝔽₁ z) (num K k))
   at k p e =
@@ -66,7 +66,7 @@ module _ (w : Residue) (z m : List ℕ) (𝓗 : HalvesInput z m) (l r y : Residu
       ∙ K .mul-assoc (elem w) _ _
       ∙ ap (λ v. elem w ⊠ v) (sym (h-halves K M Z i (num K k) up lm)) ∙ ap (λ n. elem w ⊠ h K 0 M Z [] n (num K k)) (sym up))
 
-  -- the points are words, as the places 0, 1, 2
+  -- all three values; x is the word of the last point
   pub sent : (out : List ℕ) {x a b c : ℕ} → x ≡ 2 → out ≡ a ∷ b ∷ c ∷ []
       → a ≡ word (elem w ⊠ factor (elem y) (el 0) ⊠ (elem l ⊞ el 0 ⊠ elem r))
       → b ≡ word (elem w ⊠ factor (elem y) (el 1) ⊠ (elem l ⊞ el 1 ⊠ elem r))

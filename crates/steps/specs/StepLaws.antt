@@ -20,7 +20,7 @@ length-leftOf i a s 𝓐 =
     length-words 𝔽₁ _
     ∙ length-mix K (2 ^ i) (take (2 ^ i) E) (el a) (drop (2 ^ i) E) (length-take (2 ^ i) E ∙ omega arith) (length-drop (2 ^ i) E ∙ omega arith)
 
--- it stands in the front of the work buffer
+-- what is left stands in the front of the work buffer
 pub front-is : (i : ℕ) (w : Residue) (z r s : List ℕ) → LeftAbove i s → (v : Residue) (s' : List ℕ) → TakeChallengeResult i w z r s v s'
     → take (2 ^ i) s' ≡ toWords 𝔽₁ (leftOf i (getD r i 0) s)
 front-is i w z r s 𝓐 v s' 𝓣 = ap (take (2 ^ i)) (𝓣 .left) ∙ take-at _ (drop (2 ^ i) s) (2 ^ i) (length-leftOf i (getD r i 0) s 𝓐)

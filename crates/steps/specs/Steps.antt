@@ -30,7 +30,7 @@ pub record HalvesInput (z m : List ℕ) : Type 0 where
   pub value : Evaluates m z
   pub top : 0 < length z
 
--- the values of its halves at the variables below
+-- the values of both halves of m at the variables below the top one of z
 pub record HalfValues (z m : List Element) (left right : Residue) : Type 0 where
   pub left-is : left .0 ≡ word (poly K (take (2 ^ (length z - 1)) m) (take (length z - 1) z))
   pub right-is : right .0 ≡ word (poly K (drop (2 ^ (length z - 1)) m) (take (length z - 1) z))

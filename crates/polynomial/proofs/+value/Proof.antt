@@ -4,7 +4,7 @@ use lib.ListN.{length, length-take}
 use borrow.Author.Needs.{needs}
 use Rattle.residue.specs.Residues.{el, word, _⊞_, _⊠_}
 use Rattle.residue.specs.ResidueLaws.{is-low}
-use Rattle.polynomial.specs.EvaluationLaws.{length-lower, left, right}
+use Rattle.polynomial.specs.EvaluationLaws.{length-lower, left-input, right-input}
 use Rattle.polynomial.proofs.Values.{one-word, joined}
 use Prim.Native.Nat.{ℕ, _<_}
 use borrow.Fn.Kinds.{In}
@@ -58,7 +58,7 @@ value-value-requires : (t : ℕ) → value-lts.Need-value-requires (rs t) (value
 value-value-requires t c κs =
     let s = c .before .before .before .before .before .before in
     let a = s .args in
-    (omega (arith, length-lower (a .m .now) (a .z .now) (s .pre .1) (omega arith)), left (a .m .now) (a .z .now) (s .pre .1) (omega arith))
+    (omega (arith, length-lower (a .m .now) (a .z .now) (s .pre .1) (omega arith)), left-input (a .m .now) (a .z .now) (s .pre .1) (omega arith))
 
 value-mul-value : (t : ℕ) → value-lts.Need-mul-value (rs t) (value-at t) value.Post
 value-mul-value t c = omega arith
@@ -79,7 +79,7 @@ value-value-requires-2 : (t : ℕ) → value-lts.Need-value-requires-2 (rs t) (v
 value-value-requires-2 t c κs =
     let s = c .before .before .before .before .before .before .before .before .before in
     let a = s .args in
-    (omega (arith, length-lower (a .m .now) (a .z .now) (s .pre .1) (omega arith)), right (a .m .now) (a .z .now) (s .pre .1) (omega arith))
+    (omega (arith, length-lower (a .m .now) (a .z .now) (s .pre .1) (omega arith)), right-input (a .m .now) (a .z .now) (s .pre .1) (omega arith))
 
 value-mul-new : (t : ℕ) → value-lts.Need-mul-new (rs t) (value-at t) value.Post
 value-mul-new t c = omega arith
