@@ -17,7 +17,7 @@ use Rattle.basefold.specs.Layout.{either, either-true, either-false, blockOf}
 use Rattle.basefold.specs.Honest.{next-within}
 use Rattle.basefold.specs.Checks.{next, same, foldHolds}
 use Rattle.job.specs.Limits.{blockSize, diagonalsSize}
-use Rattle.residue.specs.Residues.{F, K, Element, el, elem, word, _⊟_, _⊠_}
+use Rattle.residue.specs.Residues.{P, F, K, Element, el, elem, word, _⊟_, _⊠_}
 use Rattle.residue.specs.ResidueLaws.{stands}
 use Rattle.residue.specs.declared.Residue.{Residue}
 use Rattle.parameters.specs.Lent.{lent, diagonal}
@@ -131,13 +131,13 @@ module _ (d : ℕ) (g t t' w r o : List ℕ) (𝓞 : BlocksInput d g t t' w r o)
     pub read-within : {n : ℕ} → n ≡ diagonalsSize c i → (s : List ℕ) → diagonalsSize c d ≤ length s → n + u < length s
     read-within p s k = let e = within s k in omega arith
 
-    pub first-low : {n : ℕ} → n ≡ diagonalsSize c i → getD t (n + u) 0 < 𝔽₁ .modulus
+    pub first-low : {n : ℕ} → n ≡ diagonalsSize c i → getD t (n + u) 0 < P
     first-low p = 𝓞 .coding .low .low _ (read-within p t (𝓞 .coding .first))
 
-    pub second-low : {n : ℕ} → n ≡ diagonalsSize c i → getD t' (n + u) 0 < 𝔽₁ .modulus
+    pub second-low : {n : ℕ} → n ≡ diagonalsSize c i → getD t' (n + u) 0 < P
     second-low p = 𝓞 .coding .low' .low _ (read-within p t' (𝓞 .coding .second))
 
-    pub challenge-low : getD r i 0 < 𝔽₁ .modulus
+    pub challenge-low : getD r i 0 < P
     challenge-low = let e = 𝓞 .challenges in 𝓞 .low .low i (omega arith)
 
     -- by what is read: n is where the level's diagonals begin, up and lo are the blocks
