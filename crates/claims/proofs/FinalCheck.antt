@@ -15,7 +15,7 @@ use Rattle.multilinear.specs.Rounds.{finalSum}
 use Rattle.basefold.specs.Layout.{finalAt, carried}
 use Rattle.basefold.specs.Checks.{finalCheck, firstFailure, sumsFrom, same}
 use Rattle.basefold.specs.CheckLaws.{first-holds, first-fails, first-none}
-use Rattle.residue.specs.Residues.{F, K, elem, word, _⊠_}
+use Rattle.residue.specs.Residues.{F, K, el, elem, word, _⊠_}
 use Rattle.residue.specs.ResidueLaws.{stands}
 use Rattle.residue.specs.declared.Residue.{Residue}
 use Rattle.layout.specs.BlockLaws.{carried-is}
@@ -28,7 +28,7 @@ module _ (d : ℕ) (claim : Residue) (z r o : List ℕ) (𝓒 : ClaimsInput d cl
   product-is : elem v ⊠ elem e ≡ finalSum K 0 (carried F 0 (elements 𝔽₁ o) (length (elements 𝔽₁ r))) (elements 𝔽₁ z) (elements 𝔽₁ r)
   product-is =
       ap (λ a. elem v ⊠ a) (stands _ ee) ∙ sym (finalSum-plain K (elem v) (elements 𝔽₁ z) (elements 𝔽₁ r))
-      ∙ ap (λ m. finalSum K 0 m (elements 𝔽₁ z) (elements 𝔽₁ r)) (sym (carried-is d r o (𝓒 .sums .challenges) (𝓒 .sums .long) ∙ ap (λ a. 𝔽₁ .words .el a ∷ []) (sym (ev ∙ ap (λ k. getD o k 0) en))))
+      ∙ ap (λ m. finalSum K 0 m (elements 𝔽₁ z) (elements 𝔽₁ r)) (sym (carried-is d r o (𝓒 .sums .challenges) (𝓒 .sums .long) ∙ ap (λ a. el a ∷ []) (sym (ev ∙ ap (λ k. getD o k 0) en))))
 
   test-is : b ≡ same F (finalSum K 0 (carried F 0 (elements 𝔽₁ o) (length (elements 𝔽₁ r))) (elements 𝔽₁ z) (elements 𝔽₁ r)) (elem claim)
   test-is = eb ∙ same-words _ _ (ep ∙ ap word product-is) (its-word (claim .0) (𝓒 .sums .claim))

@@ -34,7 +34,7 @@ through-words a b c x ep es eq em eh el' ew =
 -- the values of h_i, which begin at n
 module _ (d i : ℕ) (o : List ℕ) (𝓡 : RoundSent d i o) (n : ℕ) (en : n ≡ roundAt d i) where
   pub sent-within : (k : ℕ) → k < 3 → n + k < length o
-  sent-within k h = omega (arith, 𝓡 .some, 𝓡 .level, 𝓡 .long)
+  sent-within k h = omega (arith, 𝓡 .positive, 𝓡 .level, 𝓡 .long)
 
   pub sent-low : (k at : ℕ) → k < 3 → at ≡ n + k → getD o at 0 < P
   sent-low k at h e = 𝓡 .low .low at (omega (arith, sent-within k h))
@@ -77,7 +77,7 @@ module _ (d : ℕ) (y : Residue) (r o : List ℕ) (𝓘 : SumsInput d y r o) whe
 
   module _ (i : ℕ) (claim : Residue) (𝓢 : SumsLeft d y r o i claim) (h : 0 < i) where
     pub round-sent : RoundSent d i o
-    round-sent = record { some = h; level = 𝓢 .left; long = 𝓘 .long; low = 𝓘 .opening }
+    round-sent = record { positive = h; level = 𝓢 .left; long = 𝓘 .long; low = 𝓘 .opening }
 
     pub challenge-sent : ChallengeSent i r
     challenge-sent = record { long = omega (arith, 𝓘 .challenges, 𝓢 .left); low = 𝓘 .low }

@@ -15,7 +15,7 @@ use Rattle.claims.specs.declared.sums.Claimed.the-variants.{Last, Fails}
 
 -- an opening that holds h_i
 pub record RoundSent (d i : ℕ) (o : List ℕ) : Type 0 where
-  pub some : 0 < i
+  pub positive : 0 < i
   pub level : i ≤ d
   pub long : finalAt d < length o
   pub low : LowWords P o

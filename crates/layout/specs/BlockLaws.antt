@@ -6,13 +6,13 @@ use Prim.Native.Nat.{ℕ, _+_, _*_, _-_, _^_, _≤_, _<_}
 use native.Mathlib.Omega.{arith}
 use lib.Dec.{ltb}
 use lib.ListN.{length, getD, take, drop, length-take, length-drop}
-use lib.Seq.{drop-cons}
 use borrow.Author.Tests.{ltb-true, ltb-false, lt-ltb, le-ltb}
-use Rattle.algebra.specs.Words.{𝔽₁}
-use Rattle.algebra.specs.WordLists.{Low, low-take, low-drop, elements, elements-take, elements-drop, length-elements, getD-elements}
-use Rattle.job.specs.Limits.{blockSize}
 use Rattle.algebra.specs.Flags.{cond-true, cond-false}
+use Rattle.algebra.specs.Words.{𝔽₁}
+use Rattle.algebra.specs.WordLists.{Low, low-take, low-drop, elements, length-elements, getD-elements}
+use Rattle.job.specs.Limits.{blockSize}
 use Rattle.basefold.specs.Layout.{finalAt, blockAt, blockOf, openingSize, carried}
+use Rattle.basefold.specs.Plain.{carried-plain, elements-block}
 use Rattle.residue.specs.Residues.{P, F, K, el}
 use Rattle.layout.specs.LayoutLaws.{block-within}
 
@@ -36,23 +36,15 @@ pub part-within : (c d i : ℕ) {start n k : ℕ} → i < d → start ≡ blockA
 part-within c d i h p q e = omega (arith, block-within c d i h)
 
 module _ (c d : ℕ) (w o : List ℕ) where
-  pub elements-block : (i : ℕ) → elements 𝔽₁ (blockOf c 0 d w o i) ≡ blockOf c 0 d (elements 𝔽₁ w) (elements 𝔽₁ o) i
-  unfolding blockOf
-  elements-block i = go (ltb i d)
-    where
-      go : (t : Bool) → elements 𝔽₁ (either t (take (c * 2 ^ i) (drop (blockAt c 0 d i) o)) w) ≡ either t (take (c * 2 ^ i) (drop (blockAt c 0 d i) (elements 𝔽₁ o))) (elements 𝔽₁ w)
-      go true = elements-take 𝔽₁ (c * 2 ^ i) (drop (blockAt c 0 d i) o) ∙ ap (take (c * 2 ^ i)) (elements-drop 𝔽₁ (blockAt c 0 d i) o)
-      go false = refl
-
   -- the word at k
   pub block-word : (i k : ℕ) → getD (blockOf c 0 d (elements 𝔽₁ w) (elements 𝔽₁ o) i) k (K .𝟘) ≡ el (getD (blockOf c 0 d w o i) k 0)
-  block-word i k = ap (λ l. getD l k (K .𝟘)) (sym (elements-block i)) ∙ getD-elements 𝔽₁ (blockOf c 0 d w o i) k
+  block-word i k = ap (λ l. getD l k (K .𝟘)) (sym (elements-block 𝔽₁ c 0 d w o i)) ∙ getD-elements 𝔽₁ (blockOf c 0 d w o i) k
 
   pub low-block : Low P w → Low P o → (i : ℕ) → Low P (blockOf c 0 d w o i)
   unfolding blockOf
   low-block lw lo i = go (ltb i d)
     where
-      go : (b : Bool) → Low P (either b (take (c * 2 ^ i) (drop (blockAt c 0 d i) o)) w)
+      go : (b : Bool) → Low P (cond b (take (c * 2 ^ i) (drop (blockAt c 0 d i) o)) w)
       go true = low-take (c * 2 ^ i) (low-drop (blockAt c 0 d i) lo)
       go false = lw
 
@@ -60,7 +52,7 @@ module _ (c d : ℕ) (w o : List ℕ) where
   unfolding blockOf
   length-block lw lo i h = go (ltb i d) refl
     where
-      go : (b : Bool) → ltb i d ≡ b → length (either b (take (c * 2 ^ i) (drop (blockAt c 0 d i) o)) w) ≡ c * 2 ^ i
+      go : (b : Bool) → ltb i d ≡ b → length (cond b (take (c * 2 ^ i) (drop (blockAt c 0 d i) o)) w) ≡ c * 2 ^ i
       go true e =
           let l = ltb-true i d e in
           let m = block-within c d i l in
@@ -75,4 +67,4 @@ pub carried-is : (d : ℕ) (r o : List ℕ) → length r ≡ d → finalAt d < l
 carried-is d r o e h =
     let l = length-elements 𝔽₁ o in
     ap (λ n. carried F 0 (elements 𝔽₁ o) n) (length-elements 𝔽₁ r ∙ e)
-    ∙ ap (take 1) (drop-cons (elements 𝔽₁ o) (3 * d) (K .𝟘) (omega arith)) ∙ ap (λ a. a ∷ []) (getD-elements 𝔽₁ o (3 * d))
+    ∙ carried-plain F (elements 𝔽₁ o) d (omega arith) ∙ ap (λ a. a ∷ []) (getD-elements 𝔽₁ o (finalAt d))

@@ -1,5 +1,5 @@
 -- The base checks: what each compares, and that they are those of block 0. Assumes nothing.
-use mathlib.Core.Path.{_≡_, refl, sym, ap, ap₂, _∙_}
+use mathlib.Core.Path.{_≡_, sym, ap, ap₂, _∙_}
 use mathlib.Core.Bool.{true, false}
 use mathlib.Core.List.{List}
 use Prim.Native.Nat.{ℕ, _<_}
@@ -9,12 +9,11 @@ use lib.Dec.{eqb}
 use lib.ListN.{length, getD}
 use borrow.Author.Tests.{eq-eqb, ne-eqb}
 use Rattle.algebra.specs.Lists.{row, row-ext}
-use Rattle.algebra.specs.Vector.{getD-multiple}
 use Rattle.algebra.specs.Words.{𝔽₁}
 use Rattle.algebra.specs.WordLists.{elements, length-elements, getD-elements}
 use Rattle.foldable.specs.Code.{encode}
-use Rattle.foldable.specs.Unique.{encode-word}
 use Rattle.basefold.specs.Layout.{finalAt, blockOf, carried}
+use Rattle.basefold.specs.Plain.{base-plain}
 use Rattle.basefold.specs.Checks.{baseCheck, bases, same}
 use Rattle.residue.specs.Residues.{F, K, el, elem, word, _⊠_}
 use Rattle.residue.specs.declared.Residue.{Residue}
@@ -59,5 +58,4 @@ module _ (d : ℕ) (g t t' w r o b : List ℕ) (𝓞 : BlocksInput d g t t' w r 
       right : (j : ℕ) → getD (encode F (lent g t t') 0 (carried F 0 (elements 𝔽₁ o) (length (elements 𝔽₁ r)))) j (K .𝟘) ≡ elem v ⊠ el (getD g j 0)
       right j =
           ap (λ m. getD (encode F (lent g t t') 0 m) j (K .𝟘)) (carried-is d r o (𝓞 .challenges) (opened-long d g t t' w r o 𝓞))
-          ∙ ap (λ m. getD m j (K .𝟘)) (encode-word F _ (elements 𝔽₁ g) _ _ refl (el (getD o (finalAt d) 0)))
-          ∙ getD-multiple K (el (getD o (finalAt d) 0)) (elements 𝔽₁ g) j ∙ ap₂ (λ x a. x ⊠ a) (sym (ap el value-is)) (getD-elements 𝔽₁ g j)
+          ∙ base-plain F (elements 𝔽₁ g) _ _ (el (getD o (finalAt d) 0)) j ∙ ap₂ (λ x a. x ⊠ a) (sym (ap el value-is)) (getD-elements 𝔽₁ g j)

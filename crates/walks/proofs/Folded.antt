@@ -1,5 +1,6 @@
 -- A fold check by its words, and where a query goes on. Assumes nothing.
 use mathlib.Core.Path.{_≡_, refl, sym, ap, _∙_}
+use mathlib.Core.Bool.{cond}
 use mathlib.Core.List.{List}
 use Prim.Native.Nat.{ℕ, zero, suc, _+_, _*_, _-_, _^_, _≤_, _<_}
 use native.Mathlib.Numerals.{add-one}
@@ -7,19 +8,18 @@ use native.Mathlib.Omega.{arith}
 use lib.Dec.{eqb, leb}
 use lib.ListN.{length, getD}
 use borrow.Author.Tests.{le-leb, lt-leb}
+use Rattle.algebra.specs.Flags.{cond-true, cond-false}
 use Rattle.algebra.specs.Lists.{differ-at}
 use Rattle.algebra.specs.Words.{𝔽₁}
 use Rattle.algebra.specs.WordLists.{elements, length-elements, getD-elements}
 use Rattle.foldable.specs.Code.{Code, line}
 use Rattle.foldable.specs.Encode.{double}
 use Rattle.foldable.specs.Line.{line-cross}
-use mathlib.Core.Bool.{cond}
-use Rattle.algebra.specs.Flags.{cond-true, cond-false}
 use Rattle.basefold.specs.Layout.{blockOf}
 use Rattle.basefold.specs.Honest.{next-within}
 use Rattle.basefold.specs.Checks.{next, same, foldHolds}
 use Rattle.job.specs.Limits.{blockSize, diagonalsSize}
-use Rattle.residue.specs.Residues.{F, K, Element, el, elem, word, _⊟_, _⊠_}
+use Rattle.residue.specs.Residues.{P, F, K, Element, el, elem, word, _⊟_, _⊠_}
 use Rattle.residue.specs.ResidueLaws.{stands}
 use Rattle.residue.specs.declared.Residue.{Residue}
 use Rattle.parameters.specs.Lent.{lent, diagonal}
@@ -133,13 +133,13 @@ module _ (d : ℕ) (g t t' w r o : List ℕ) (𝓞 : BlocksInput d g t t' w r o)
     pub read-within : {n : ℕ} → n ≡ diagonalsSize c i → (s : List ℕ) → diagonalsSize c d ≤ length s → n + u < length s
     read-within p s k = let e = within s k in omega arith
 
-    pub first-low : {n : ℕ} → n ≡ diagonalsSize c i → getD t (n + u) 0 < 𝔽₁ .modulus
+    pub first-low : {n : ℕ} → n ≡ diagonalsSize c i → getD t (n + u) 0 < P
     first-low p = 𝓞 .coding .low .low _ (read-within p t (𝓞 .coding .first))
 
-    pub second-low : {n : ℕ} → n ≡ diagonalsSize c i → getD t' (n + u) 0 < 𝔽₁ .modulus
+    pub second-low : {n : ℕ} → n ≡ diagonalsSize c i → getD t' (n + u) 0 < P
     second-low p = 𝓞 .coding .low' .low _ (read-within p t' (𝓞 .coding .second))
 
-    pub challenge-low : getD r i 0 < 𝔽₁ .modulus
+    pub challenge-low : getD r i 0 < P
     challenge-low = let e = 𝓞 .challenges in 𝓞 .low .low i (omega arith)
 
     -- by what is read: n is where the level's diagonals begin, up and lo are the blocks

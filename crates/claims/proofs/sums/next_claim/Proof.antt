@@ -56,7 +56,7 @@ shared-slice-read-new-4 : tie.Need-shared-slice-read-new-4
 shared-slice-read-new-4 c = search needs
 
 new-requires-4 : tie.Need-new-requires-4
-new-requires-4 c κs = let s = c .before .before .before .before .before .before .before .before .before .before in s .pre .1 .low .low (s .args .i - 1) (omega (arith, s .pre .0 .some, s .pre .1 .long))
+new-requires-4 c κs = let s = c .before .before .before .before .before .before .before .before .before .before in s .pre .1 .low .low (s .args .i - 1) (omega (arith, s .pre .0 .positive, s .pre .1 .long))
 
 through-requires : tie.Need-through-requires
 through-requires c κs =
@@ -66,7 +66,7 @@ through-requires c κs =
       rw (c .before .before .before .before .before .before .new .ensures) (low 0 _ (lit< tt) (omega arith)),
       rw (c .before .before .before .before .new2 .ensures) (low 1 _ (lit< tt) refl),
       rw (c .before .before .new3 .ensures) (low 2 _ (lit< tt) refl),
-      rw (c .new4 .ensures) (s .pre .1 .low .low (a .i - 1) (omega (arith, s .pre .0 .some, s .pre .1 .long))),
+      rw (c .new4 .ensures) (s .pre .1 .low .low (a .i - 1) (omega (arith, s .pre .0 .positive, s .pre .1 .long))),
     )
 
 returns : tie.Need-returns
