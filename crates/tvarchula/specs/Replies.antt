@@ -8,7 +8,7 @@ use Rattle.job.specs.declared.Answer.{Answer}
 use Rattle.code.specs.Encoding.{Encoded}
 use Rattle.decode.specs.Decoding.{Decoded}
 use Rattle.fold.specs.Job.{Folded}
-use Rattle.open.specs.Writing.{outcome as wrote, Wrote}
+use Rattle.open.specs.Writing.{writtenOutcome as wrote, Wrote}
 use Rattle.open.specs.declared.Written.{Written}
 use Rattle.verdict.specs.Verdicts.{Numbers}
 use Rattle.polynomial.specs.Evaluation.{outcome as evaluated, evaluation}
