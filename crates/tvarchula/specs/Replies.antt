@@ -18,7 +18,7 @@ use Rattle.open.specs.Writing.{judgeWriting, valueWord, openingWords}
 use Rattle.verify.specs.Verdicts.{Numbers}
 use Rattle.job.specs.Limits.{blockSize}
 use Rattle.polynomial.specs.Evaluation.{evaluation}
-use Rattle.table.specs.Clearances.{Meaning, free, overlap}
+use Rattle.clearance.specs.Clearances.{Meaning, free, overlap}
 use Rattle.table.specs.Jobs.{judgeTable, MessageOf, Leaves, judgeMessage, tableOf}
 use Rattle.tvarchula.specs.declared.answer.Reply.{Reply}
 use Rattle.tvarchula.specs.declared.ground.ReadingReply.{ReadingReply}

@@ -6,8 +6,9 @@ ghost use lib.ListN.{length, replicate};
 ghost use Rattle.algebra.specs.Tests.{all};
 ghost use Rattle.algebra.specs.WordLists.{Low};
 ghost use Rattle.residue.specs.Residues.{P};
-ghost use Rattle.table.specs.Clearances.{inRange, residueOf, clearanceOf};
+ghost use Rattle.clearance.specs.Clearances.{inRange, residueOf, clearanceOf};
 use crate::clearance;
+use residue::Residue;
 
 // Whether each clearance is in the range, with no early exit.
 pub fn all_in_range(s: &[i32]) -> bool
@@ -22,13 +23,14 @@ pub fn all_in_range(s: &[i32]) -> bool
     ok
 }
 
+// The words of the residues that stand for the clearances.
 pub fn to_words(s: &[i32], out: &mut [u32])
     requires { ⌜ (length (now out) ≡ length (now s)) × (all inRange (now s) ≡ true) ⌝ }
     ensures { λ _. ⌜ now (out .exit) ≡ map residueOf (now (s .entry)) ⌝ }
 {
     let mut i = 0;
     while i < s.len() {
-        out[i] = clearance::to_word(s[i]);
+        out[i] = clearance::to_residue(s[i]).word();
         i += 1;
     }
 }
@@ -40,7 +42,7 @@ pub fn to_clearances(s: &mut [u32], out: &mut [i32])
 {
     let mut i = 0;
     while i < s.len() {
-        out[i] = clearance::to_clearance(s[i]);
+        out[i] = clearance::to_clearance(Residue::new(s[i]));
         s[i] = 0;
         i += 1;
     }

@@ -10,8 +10,9 @@ use Rattle.job.specs.OutcomeLaws.{stop, pass}
 use Rattle.residue.specs.declared.Residue.{Residue}
 use Rattle.residue.specs.declared.Parsed.the-variants.{Residue as Is, TooLarge}
 use Rattle.residue.specs.Residues.{P, parsed, parsedBy}
-use Rattle.table.specs.Clearances.{border, meaning, free, overlap, clearance-free, clearance-overlap}
-use Rattle.table.specs.Reading.{reading}
+use Rattle.clearance.specs.Clearances.{border, meaning, free, overlap}
+use Rattle.clearance.specs.ClearanceLaws.{clearance-free, clearance-overlap}
+use Rattle.clearance.specs.Reading.{reading}
 
 pub no-residue : (w : ℕ) → TooLarge ≡ parsed w → refused 4 ≡ reading w
 no-residue w e = go (ltb w P) refl e

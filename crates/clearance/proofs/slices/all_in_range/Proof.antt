@@ -6,10 +6,10 @@ use lib.IntN.{pos}
 use lib.ListN.{length, getD, take}
 use borrow.Author.Needs.{needs}
 use Rattle.algebra.specs.Tests.{all, all-none, all-turn, all-end}
-use Rattle.table.specs.Clearances.{inRange}
-use Rattle.table.proofs.Signs.{read-any}
-use Rattle.table.proofs.slices.all_in_range.Statement.{statement}
-use Rattle.table.proofs.slices.all_in_range.Tie as tie
+use Rattle.clearance.specs.Clearances.{inRange}
+use Rattle.clearance.proofs.Signs.{read-any}
+use Rattle.clearance.proofs.slices.all_in_range.Statement.{statement}
+use Rattle.clearance.proofs.slices.all_in_range.Tie as tie
 
 abbrev Inv-loop : tie.InvT-loop
 Inv-loop s ok₀ i₀ ok i = (i ≤ length s) × (ok ≡ all inRange (take i s))

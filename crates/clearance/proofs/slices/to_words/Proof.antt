@@ -8,10 +8,10 @@ use lib.ListN.{length, getD, length-map, List·getD-map}
 use borrow.Author.Needs.{needs}
 use Rattle.algebra.specs.Filling.{Filled, filled-none, filled-turn, filled-end, filled-length}
 use Rattle.algebra.specs.Tests.{all-at}
-use Rattle.table.specs.Clearances.{inRange, residueOf}
-use Rattle.table.proofs.Signs.{read-any}
-use Rattle.table.proofs.slices.to_words.Statement.{statement}
-use Rattle.table.proofs.slices.to_words.Tie as tie
+use Rattle.clearance.specs.Clearances.{inRange, residueOf}
+use Rattle.clearance.proofs.Signs.{read-any}
+use Rattle.clearance.proofs.slices.to_words.Statement.{statement}
+use Rattle.clearance.proofs.slices.to_words.Tie as tie
 
 abbrev Inv-loop : tie.InvT-loop
 Inv-loop s out₀ i₀ out i = (i ≤ length s) × (length out ≡ length s) × Filled i (map residueOf s) out₀ out
@@ -22,17 +22,20 @@ abbrev μ-loop : tie.MeasureT-loop
 loop-holds : tie.Need-loop-holds Inv-loop μ-loop
 loop-holds c = (omega arith, omega arith, filled-none _ _)
 
-mul-to-word : tie.Need-mul-to-word Inv-loop μ-loop
-mul-to-word c = search needs
+mul-to-residue : tie.Need-mul-to-residue Inv-loop μ-loop
+mul-to-residue c = search needs
 
-shared-slice-copy-out-to-word : tie.Need-shared-slice-copy-out-to-word Inv-loop μ-loop
-shared-slice-copy-out-to-word c = search needs
+shared-slice-copy-out-to-residue : tie.Need-shared-slice-copy-out-to-residue Inv-loop μ-loop
+shared-slice-copy-out-to-residue c = search needs
 
-to-word-requires : tie.Need-to-word-requires Inv-loop μ-loop
-to-word-requires c κs =
+to-residue-requires : tie.Need-to-residue-requires Inv-loop μ-loop
+to-residue-requires c κs =
     let l = c .before .before .loop in
     let start = c .before .before .before .before in
-    ap inRange (read-any (getD (start .args .s .now) (l .i) (pos 0)) (c .to-word-arg .given)) ∙ all-at inRange (start .args .s .now) (pos 0) (start .pre .1) (l .i) (omega arith)
+    ap inRange (read-any (getD (start .args .s .now) (l .i) (pos 0)) (c .to-residue-arg .given)) ∙ all-at inRange (start .args .s .now) (pos 0) (start .pre .1) (l .i) (omega arith)
+
+word-requires : tie.Need-word-requires Inv-loop μ-loop
+word-requires c κs = search needs
 
 mul-out : tie.Need-mul-out Inv-loop μ-loop
 mul-out c = search needs
@@ -48,10 +51,12 @@ loop-less c = omega arith
 
 loop-again : tie.Need-loop-again Inv-loop μ-loop
 loop-again c =
-    let l = c .before .before .before .loop in
-    let s = c .before .before .before .before .before .args .s .now in
-    let read = ap residueOf (read-any (getD s (l .i) (pos 0)) (c .before .to-word-arg .given)) in
-    let p = filled-turn 0 (omega arith) (omega (arith, length-map s residueOf)) (l .inv .2) (c .to-word .ensures ∙ read ∙ sym (List·getD-map residueOf s (l .i) (pos 0))) in
+    let made = c .before in
+    let l = made .before .before .before .loop in
+    let s = made .before .before .before .before .before .args .s .now in
+    let read = ap residueOf (read-any (getD s (l .i) (pos 0)) (made .before .to-residue-arg .given)) in
+    let is = c .word .ensures ∙ made .to-residue .ensures ∙ read ∙ sym (List·getD-map residueOf s (l .i) (pos 0)) in
+    let p = filled-turn 0 (omega arith) (omega (arith, length-map s residueOf)) (l .inv .2) is in
     (omega arith, omega (arith, filled-length p), p)
 
 same-length : tie.Need-same-length Inv-loop μ-loop
@@ -70,9 +75,10 @@ to-words-spec =
     Inv-loop
     μ-loop
     loop-holds
-    mul-to-word
-    shared-slice-copy-out-to-word
-    to-word-requires
+    mul-to-residue
+    shared-slice-copy-out-to-residue
+    to-residue-requires
+    word-requires
     mul-out
     slice-write-out
     add-i

@@ -1,6 +1,6 @@
 // Reading a residue as a clearance.
 ghost use mathlib.Core.Path.{_≡_};
-ghost use Rattle.table.specs.Reading.{reading, outcomeOf};
+ghost use Rattle.clearance.specs.Reading.{reading, readingOutcome};
 use job::Refusal;
 use residue::Parsed;
 use residue::Residue;
@@ -12,7 +12,7 @@ pub enum Reading {
 }
 
 pub fn read_clearance(word: u32) -> Reading
-    ensures { λ r. ⌜ outcomeOf r ≡ reading word ⌝ }
+    ensures { λ r. ⌜ readingOutcome r ≡ reading word ⌝ }
 {
     let r = match Residue::from_word(word) {
         Parsed::Residue(r) => r,

@@ -1,56 +1,34 @@
--- Clearances in micrometres, the residues that stand for them, and what a clearance means. Assumes nothing.
+-- Laws of clearances: every one in range is one residue, and every residue is one clearance in range. Assumes nothing.
 use mathlib.Core.Path.{_≡_, refl, ap, ap₂, _∙_}
 use mathlib.Core.Bool.{Bool, true, false, _&&_, cond}
-use Prim.Native.Nat.{ℕ, zero, suc, _-_, _<_, _≤_}
+use Prim.Native.Nat.{ℕ, zero, suc, _+_, _-_, _/_, _<_, _≤_}
 use native.Mathlib.Omega.{arith}
 use lib.Dec.{leb, ltb}
 use lib.IntN.{ℤ, pos, negsuc, negℤ}
-use lib.Signed.{leZ}
 use borrow.Author.Tests.{lt-ltb, le-ltb, le-leb, leb-true, ltb-true, ltb-false}
 use Rattle.algebra.specs.Tests.{and-both}
 use Rattle.residue.specs.Residues.{P}
+use Rattle.clearance.specs.Clearances.{maxClearance, border, inRange, residueOf, clearanceOf}
 
--- the largest distance, and the first residue that is an overlap
-abbrev pub farthest : ℕ
-farthest = 1073741823
+-- the border is in the middle of the residues, right above the largest distance
+pub border-middle : border ≡ (P + 1) / 2
+border-middle = refl
 
-abbrev pub border : ℕ
-border = 1073741824
-
--- from -1073741823 to 1073741823
-abbrev pub inRange : ℤ → Bool
-inRange x = leZ (negℤ (pos farthest)) x && leZ x (pos farthest)
-
--- x of 0 or more is the residue x, a negative one is p + x
-abbrev pub residueOf : ℤ → ℕ
-residueOf (pos n) = n
-residueOf (negsuc n) = P - suc n
-
--- the clearance that a residue is
-abbrev pub clearanceOf : ℕ → ℤ
-clearanceOf w = cond (ltb w border) (pos w) (negℤ (pos (P - w)))
-
--- free with a distance, or an overlap with its positive amount
-pub data Meaning : Type 0 where
-  free : ℕ → Meaning
-  overlap : ℕ → Meaning
-
-abbrev pub meaning : ℤ → Meaning
-meaning (pos n) = free n
-meaning (negsuc n) = overlap (suc n)
+pub border-next : border ≡ suc maxClearance
+border-next = refl
 
 -- the range by the sign
-pub range-free : (n : ℕ) → inRange (pos n) ≡ true → n ≤ farthest
-range-free n e = leb-true n farthest e
+pub range-free : (n : ℕ) → inRange (pos n) ≡ true → n ≤ maxClearance
+range-free n e = leb-true n maxClearance e
 
-pub range-overlap : (n : ℕ) → inRange (negsuc n) ≡ true → suc n ≤ farthest
-range-overlap n e = let h = leb-true n 1073741822 (and-both (leb n 1073741822) true e .0) in omega arith
+pub range-overlap : (n : ℕ) → inRange (negsuc n) ≡ true → suc n ≤ maxClearance
+range-overlap n e = let h = leb-true n (maxClearance - 1) (and-both (leb n (maxClearance - 1)) true e .0) in omega arith
 
-pub free-range : (n : ℕ) → n ≤ farthest → inRange (pos n) ≡ true
-free-range n h = le-leb n farthest h
+pub free-range : (n : ℕ) → n ≤ maxClearance → inRange (pos n) ≡ true
+free-range n h = le-leb n maxClearance h
 
-pub overlap-range : (n : ℕ) → suc n ≤ farthest → inRange (negsuc n) ≡ true
-overlap-range n h = ap (λ b. b && true) (le-leb n 1073741822 (omega arith))
+pub overlap-range : (n : ℕ) → suc n ≤ maxClearance → inRange (negsuc n) ≡ true
+overlap-range n h = ap (λ b. b && true) (le-leb n (maxClearance - 1) (omega arith))
 
 -- a residue by the border
 pub clearance-free : (w : ℕ) → w < border → clearanceOf w ≡ pos w

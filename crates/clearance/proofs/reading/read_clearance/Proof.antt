@@ -5,10 +5,10 @@ use native.Mathlib.Omega.{arith}
 use borrow.Author.Needs.{needs}
 use Rattle.job.specs.Outcome.{done}
 use Rattle.residue.specs.Residues.{P}
-use Rattle.table.specs.Clearances.{free, overlap}
-use Rattle.table.proofs.Readings.{no-residue, Same, a-residue, reads-free, reads-overlap}
-use Rattle.table.proofs.reading.read_clearance.Statement.{statement}
-use Rattle.table.proofs.reading.read_clearance.Tie as tie
+use Rattle.clearance.specs.Clearances.{free, overlap}
+use Rattle.clearance.proofs.Readings.{no-residue, Same, a-residue, reads-free, reads-overlap}
+use Rattle.clearance.proofs.reading.read_clearance.Statement.{statement}
+use Rattle.clearance.proofs.reading.read_clearance.Tie as tie
 
 from-word-requires : tie.Need-from-word-requires
 from-word-requires c κs = search needs

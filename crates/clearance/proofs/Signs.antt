@@ -11,7 +11,8 @@ use mir.Syntax.{w32}
 use mir.Val.{SFits, toZ, ofZ}
 use mir.ValLaws.{toZ-ofZ, toZ-pos}
 use Rattle.residue.specs.Residues.{P}
-use Rattle.table.specs.Clearances.{farthest, border, inRange, range-free, range-overlap, free-range, overlap-range, clearanceOf, clearance-free, clearance-overlap}
+use Rattle.clearance.specs.Clearances.{maxClearance, border, inRange, clearanceOf}
+use Rattle.clearance.specs.ClearanceLaws.{range-free, range-overlap, free-range, overlap-range, clearance-free, clearance-overlap}
 
 abbrev pub Read : ℤ → ℤ
 Read x = toZ w32 (ofZ w32 x)
@@ -34,7 +35,7 @@ read (negsuc n) e = read-any (negsuc n) (omega (arith, range-overlap n e))
 -- a clearance below zero: its negation
 pub record Below (x : ℤ) : Type 0 where
   pub less : ℕ
-  pub small : suc less ≤ farthest
+  pub small : suc less ≤ maxClearance
   pub is : x ≡ negsuc less
   pub negated : pos 0 -ℤ Read x ≡ pos (suc less)
   pub back : Read (pos 0 -ℤ Read x) ≡ pos (suc less)
@@ -49,7 +50,7 @@ below (negsuc n) e h =
 -- and one that is not below zero
 pub record Above (x : ℤ) : Type 0 where
   pub distance : ℕ
-  pub small : distance ≤ farthest
+  pub small : distance ≤ maxClearance
   pub is : x ≡ pos distance
   pub back : Read x ≡ pos distance
 

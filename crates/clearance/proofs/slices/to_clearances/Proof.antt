@@ -7,10 +7,11 @@ use lib.IntN.{pos}
 use lib.ListN.{length, getD, replicate, length-map, length-replicate, getD-replicate, List·getD-map}
 use borrow.Author.Needs.{needs}
 use Rattle.algebra.specs.Filling.{Filled, filled-none, filled-turn, filled-end, filled-length, filled-old}
-use Rattle.table.specs.Clearances.{clearanceOf, clearance-range}
-use Rattle.table.proofs.Signs.{Read, read}
-use Rattle.table.proofs.slices.to_clearances.Statement.{statement}
-use Rattle.table.proofs.slices.to_clearances.Tie as tie
+use Rattle.clearance.specs.Clearances.{clearanceOf}
+use Rattle.clearance.specs.ClearanceLaws.{clearance-range}
+use Rattle.clearance.proofs.Signs.{Read, read}
+use Rattle.clearance.proofs.slices.to_clearances.Statement.{statement}
+use Rattle.clearance.proofs.slices.to_clearances.Tie as tie
 
 abbrev Inv-loop : tie.InvT-loop
 Inv-loop s₀ out₀ i₀ s out i =
@@ -23,20 +24,26 @@ abbrev μ-loop : tie.MeasureT-loop
 loop-holds : tie.Need-loop-holds Inv-loop μ-loop
 loop-holds c = (omega arith, refl, omega arith, filled-none _ _, filled-none _ _)
 
-mul-to-clearance : tie.Need-mul-to-clearance Inv-loop μ-loop
-mul-to-clearance c = search needs
+mul-new : tie.Need-mul-new Inv-loop μ-loop
+mul-new c = search needs
 
-slice-read-to-clearance : tie.Need-slice-read-to-clearance Inv-loop μ-loop
-slice-read-to-clearance c = search needs
+slice-read-new : tie.Need-slice-read-new Inv-loop μ-loop
+slice-read-new c = search needs
 
-to-clearance-requires : tie.Need-to-clearance-requires Inv-loop μ-loop
-to-clearance-requires c κs =
+new-requires : tie.Need-new-requires Inv-loop μ-loop
+new-requires c κs =
     let l = c .before .before .loop in
     let z = c .before .before .before .before in
     rw (filled-old (l .inv .4) (l .i) 0 (omega arith)) (z .pre .1 .low (l .i) (omega arith))
 
-mul-t9 : tie.Need-mul-t9 Inv-loop μ-loop
-mul-t9 c = search needs
+to-clearance-requires : tie.Need-to-clearance-requires Inv-loop μ-loop
+to-clearance-requires c κs =
+    let l = c .before .before .before .loop in
+    let z = c .before .before .before .before .before in
+    rw (c .new .ensures ∙ filled-old (l .inv .4) (l .i) 0 (omega arith)) (z .pre .1 .low (l .i) (omega arith))
+
+mul-t10 : tie.Need-mul-t10 Inv-loop μ-loop
+mul-t10 c = search needs
 
 slice-set-from-out : tie.Need-slice-set-from-out Inv-loop μ-loop
 slice-set-from-out c = search needs
@@ -55,12 +62,13 @@ loop-less c = omega arith
 
 loop-again : tie.Need-loop-again Inv-loop μ-loop
 loop-again c =
-    let l = c .before .before .before .loop in
-    let z = c .before .before .before .before .before in
+    let made = c .before in
+    let l = made .before .before .before .loop in
+    let z = made .before .before .before .before .before in
     let s = z .args .s .now in
     let n = length s in
     let w = getD s (l .i) 0 in
-    let same = filled-old (l .inv .4) (l .i) 0 (omega arith) in
+    let same = made .new .ensures ∙ filled-old (l .inv .4) (l .i) 0 (omega arith) in
     let is = ap Read (c .to-clearance .ensures ∙ ap clearanceOf same) ∙ read (clearanceOf w) (clearance-range w (z .pre .1 .low (l .i) (omega arith))) in
     let p = filled-turn (pos 0) (omega arith) (omega (arith, length-map s clearanceOf)) (l .inv .3) (is ∙ sym (List·getD-map clearanceOf s (l .i) 0)) in
     let q = filled-turn 0 (omega arith) (length-replicate n 0) (l .inv .4) (sym (getD-replicate n (l .i) 0 0 (omega arith))) in
@@ -87,10 +95,11 @@ to-clearances-spec =
     Inv-loop
     μ-loop
     loop-holds
-    mul-to-clearance
-    slice-read-to-clearance
+    mul-new
+    slice-read-new
+    new-requires
     to-clearance-requires
-    mul-t9
+    mul-t10
     slice-set-from-out
     mul-s
     slice-write-s
