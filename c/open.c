@@ -13,26 +13,28 @@ int main(void)
     /* Planner: a table of two clearances, its coefficients, the commitment. */
     const int32_t table[] = {1250, -300};
     uint32_t message[TV_MESSAGE_LEN(DEPTH)], block[TV_BLOCK_LEN(DEPTH, RATE)];
-    if (tv_table_to_coefficients(table, 2, message, 2).number != 0)
+    if (tv_table_to_coefficients(table, 2, message, 2).number != TV_DONE)
         return 1;
-    if (tv_encode(DEPTH, RATE, g, 2, t, 2, t2, 2, message, 2, block, 4).number != 0)
+    if (tv_encode(DEPTH, RATE, g, 2, t, 2, t2, 2, message, 2, block, 4).number != TV_DONE)
         return 1;
 
     /* Entry 1 is opened at the corner {1}, under the challenge r. */
     const uint32_t z[] = {1}, r[] = {77}, queries[] = {0, 1};
     uint32_t opening[TV_OPENING_LEN(DEPTH, RATE)], work[2 * TV_MESSAGE_LEN(DEPTH)], value;
-    if (tv_write_opening(DEPTH, RATE, g, 2, t, 2, t2, 2, message, 2, z, 1, r, 1, opening, 6, work, 4, &value).number != 0)
+    if (tv_write_opening(DEPTH, RATE, g, 2, t, 2, t2, 2, message, 2, z, 1, r, 1, opening, 6, work, 4, &value).number != TV_DONE)
         return 1;
 
-    /* Cell: verifies, then reads. */
+    /* Cell: verifies, then reads. Only TV_ACCEPTED accepts. */
     tv_answer verdict = tv_verify_opening(DEPTH, RATE, g, 2, t, 2, t2, 2, block, 4, z, 1, value, r, 1, queries, 2, opening, 6);
-    if (verdict.number != 0)
+    if (verdict.number != TV_ACCEPTED)
         return 1;
     tv_reading reading = tv_read_clearance(value);
+    if (reading.number != TV_DONE)
+        return 1;
     printf("entry 1 accepted: %s %u\n", reading.kind == TV_FREE ? "free" : "overlap", (unsigned)reading.amount);
 
     /* The other entry's clearance instead. */
     verdict = tv_verify_opening(DEPTH, RATE, g, 2, t, 2, t2, 2, block, 4, z, 1, 1250, r, 1, queries, 2, opening, 6);
-    printf("1250 instead: %u at %u\n", (unsigned)verdict.number, (unsigned)verdict.first);
-    return verdict.number == 20 ? 0 : 1;
+    printf("1250 instead: %u, %s\n", (unsigned)verdict.number, tv_number_text(verdict.number));
+    return verdict.number == TV_FAILED_SUM ? 0 : 1;
 }

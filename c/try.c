@@ -9,6 +9,8 @@
 
 #define P TV_MODULUS
 #define GARBAGE 0xdeadbeefu
+/* A negative clearance, as it lies in memory. */
+#define NEGATIVE(amount) (0u - (amount))
 
 /* Words that a buffer must hold; with at NULL, what it held when it was lent. */
 typedef struct {
@@ -200,20 +202,20 @@ static void verify(const char *what, code c, list block, list z, uint32_t y, lis
 static void clearances(void)
 {
     reading("residue 0 is free by 0", 0, 0, TV_FREE, 0);
-    reading("residue 1073741823 is free by as much", 1073741823, 0, TV_FREE, TV_FARTHEST);
-    reading("residue 1073741824 is an overlap of 1073741823", 1073741824, 0, TV_OVERLAP, TV_FARTHEST);
+    reading("residue 1073741823 is free by as much", 1073741823, 0, TV_FREE, TV_MAX_CLEARANCE);
+    reading("residue 1073741824 is an overlap of 1073741823", 1073741824, 0, TV_OVERLAP, TV_MAX_CLEARANCE);
     reading("residue 2147483646 is an overlap of 1", P - 1, 0, TV_OVERLAP, 1);
     reading("word 2147483647 is no residue", P, 4, 0, 0);
 
-    to_coefficients("clearance -1 is residue 2147483646, at depth 0", LIST(-1), DONE, LIST(2147483646u));
+    to_coefficients("clearance -1 is residue 2147483646, at depth 0", LIST(NEGATIVE(1)), DONE, LIST(2147483646u));
     to_coefficients("clearance 1073741824 is refused", LIST(1073741824), NUMBER(9), AS_IT_WAS(1));
-    to_coefficients("clearance -1073741824 is refused", LIST(-1073741824), NUMBER(9), AS_IT_WAS(1));
+    to_coefficients("clearance -1073741824 is refused", LIST(NEGATIVE(1073741824)), NUMBER(9), AS_IT_WAS(1));
     to_coefficients("table 3 5 4 10 to coefficients", LIST(3, 5, 4, 10), DONE, LIST(3, 2, 1, 4));
     to_coefficients("table of length 3", LIST(1, 2, 3), NUMBER(1), AS_IT_WAS(3));
     to_coefficients("table of length 0", NONE, NUMBER(1), NONE);
     to_coefficients("message of another length", LIST(1, 2), NUMBER(3), AS_IT_WAS(1));
 
-    to_table("residue 1073741824 is clearance -1073741823", LIST(1073741824), DONE, LIST(-1073741823), ZEROS(1));
+    to_table("residue 1073741824 is clearance -1073741823", LIST(1073741824), DONE, LIST(NEGATIVE(1073741823)), ZEROS(1));
     to_table("coefficients 3 2 1 4 to table", LIST(3, 2, 1, 4), DONE, LIST(3, 5, 4, 10), ZEROS(4));
     to_table("message of length 3", LIST(1, 2, 3), NUMBER(1), AS_IT_WAS(3), AS_IT_WAS(3));
     to_table("message word 2147483647", LIST(1, P), NUMBER(4), AS_IT_WAS(2), AS_IT_WAS(2));

@@ -1,28 +1,19 @@
 /* Tvarchula: a BaseFold commitment over the integers modulo 2147483647.
  *
- * One function for each job, over the static library libtvarchula.a. Every function answers on any input and keeps no state, so any
- * number of threads may call it at once. All memory is lent by the caller: the library allocates nothing and keeps no pointer.
+ * One function for each job, over the static library libtvarchula.a. The archive is for x86-64 with SSE2. It wants memset and nothing
+ * else, has no data of its own, and takes less than 3 KiB of stack at depth 16 and rate 16, where c/stack.c measures it: count on 4 KiB.
  *
- * A slice is a pointer and a count of words. All slices of one call are distinct buffers. An empty slice may have any pointer that is
- * not null.
+ * Every function answers on any input and keeps no state: any number of threads may call it at once. All memory is lent by the caller;
+ * the library allocates nothing and keeps no pointer.
  *
- * An answer's number is 0 when the job is done (verifying: accepted), else the smallest number that applies:
- *    1  depth above TV_DEEPEST (folding: the upper level not 1 to TV_DEEPEST); a table's or message's length that is no power of two
- *       from 1 to TV_LONGEST_TABLE, where the job finds the depth from it
- *    2  rate not TV_LEAST_RATE to TV_MOST_RATE
- *    3  a slice, result and work included, that has not its exact length
- *    4  a word that is read is TV_MODULUS or more
- *    5  a zero in the base row
- *    6  the diagonals t and t2 are equal in some place
- *    7  the query list is too short or too long, or a place is too large
- *    8  decoding: the block is no codeword
- *    9  a clearance outside -TV_FARTHEST to TV_FARTHEST
- *   20  verifying: sum check i fails (first is i)          21  the final check fails
- *   22  base check j fails (first is j)                    23  a fold check fails (first is the query's position, second the level)
- * Places that a number does not name are 0.
+ * Slices. A slice is a pointer and a count of words, not of bytes. Its length is exact: a longer slice is refused like a shorter one.
+ *  - The pointer is not null and is aligned to 4 bytes, also where the count is 0. data() of an empty std::vector may be null: pass the
+ *    address of any word instead, with the count 0.
+ *  - A slice that is written (result or work) overlaps no other slice of the call. Two slices that are only read may coincide.
+ *  - A pointer to a single result (value) is not null, is aligned to 4 bytes, and points outside all slices of the call.
  *
- * After a refusal every result buffer and single result is as it was. Work buffers hold zeros after 0 and after 8, and are as they were
- * after any other refusal. Their contents before a call do not matter.
+ * After a refusal every result and single result is as it was. Work buffers hold zeros after 0 and after 8, and are as they were after any
+ * other refusal. What they hold before a call does not matter. What is only read is never changed.
  */
 #ifndef TVARCHULA_H
 #define TVARCHULA_H
@@ -30,75 +21,148 @@
 #include <stddef.h>
 #include <stdint.h>
 
+/* The version of this header and of the archive that it belongs to; the Rust crates and the pkg-config file have the same. PATCH moves
+ * when declarations and answers stay, MINOR when some are added, MAJOR when one changes or goes. As long as MAJOR is 0, MINOR moves for
+ * changes too. A program and its archive have MAJOR and MINOR in common. */
+#define TV_VERSION_MAJOR 0
+#define TV_VERSION_MINOR 1
+#define TV_VERSION_PATCH 0
+#define TV_VERSION "0.1.0"
+
+/* Limits. */
+#define TV_MODULUS 2147483647u
+#define TV_MAX_DEPTH 16u
+#define TV_MIN_RATE 2u
+#define TV_MAX_RATE 16u
+#define TV_MAX_QUERIES 256u
+#define TV_MAX_TABLE_LEN 65536u
+#define TV_MAX_CLEARANCE 1073741823
+
+/* The number of an answer. When several apply, the smallest is given. A number that is not listed here comes from an archive of another
+ * version, and is no success. */
+#define TV_DONE 0u
+#define TV_ACCEPTED 0u             /* verifying: every check holds */
+#define TV_REFUSED_DEPTH 1u        /* depth above TV_MAX_DEPTH (folding: the upper level not 1 to TV_MAX_DEPTH); a table's length, or a
+                                      message's on the way back, that is no power of two from 1 to TV_MAX_TABLE_LEN */
+#define TV_REFUSED_RATE 2u         /* rate not TV_MIN_RATE to TV_MAX_RATE */
+#define TV_REFUSED_LENGTH 3u       /* a slice, result and work included, that has not its exact length; for the query list see 7 */
+#define TV_REFUSED_WORD 4u         /* a word or single value that is read is TV_MODULUS or more; for the query list see 7 */
+#define TV_REFUSED_ROW 5u          /* a zero in the base row */
+#define TV_REFUSED_DIAGONALS 6u    /* t and t2 are equal in some place */
+#define TV_REFUSED_QUERIES 7u      /* the query list is too short or too long, or a place in it is too large */
+#define TV_REFUSED_NO_CODEWORD 8u  /* decoding: a well-formed block is no codeword */
+#define TV_REFUSED_CLEARANCE 9u    /* a clearance outside -TV_MAX_CLEARANCE to TV_MAX_CLEARANCE */
+#define TV_FAILED_SUM 20u          /* verifying: sum check i fails; first is i */
+#define TV_FAILED_FINAL 21u        /* verifying: the final check fails */
+#define TV_FAILED_BASE 22u         /* verifying: base check j fails; first is j */
+#define TV_FAILED_FOLD 23u         /* verifying: a fold check fails; first is the query's position from 0, second the level */
+
+/* What a reading is. */
+#define TV_FREE 1u
+#define TV_OVERLAP 2u
+
+/* Words of a message, of a block of a level, of each of t and t2, and of an opening. Depth, level and rate must be legal. */
+#ifdef __cplusplus
+#define TV_SIZE(number) (static_cast<size_t>(number))
+#else
+#define TV_SIZE(number) ((size_t)(number))
+#endif
+#define TV_MESSAGE_LEN(depth) (TV_SIZE(1) << (depth))
+#define TV_BLOCK_LEN(level, rate) (TV_SIZE(rate) << (level))
+#define TV_DIAGONALS_LEN(depth, rate) (TV_SIZE(rate) * (TV_MESSAGE_LEN(depth) - 1))
+#define TV_OPENING_LEN(depth, rate) (3 * TV_SIZE(depth) + 1 + TV_DIAGONALS_LEN(depth, rate))
+
+/* The compiler warns where an answer is not looked at. */
+#if defined(__cplusplus) && __cplusplus >= 201703L
+#define TV_MUST_USE [[nodiscard]]
+#elif defined(__GNUC__)
+#define TV_MUST_USE __attribute__((warn_unused_result))
+#else
+#define TV_MUST_USE
+#endif
+
 #ifdef __cplusplus
 extern "C" {
 #endif
 
-#define TV_MODULUS 2147483647u
-#define TV_DEEPEST 16u
-#define TV_LEAST_RATE 2u
-#define TV_MOST_RATE 16u
-#define TV_MOST_QUERIES 256u
-#define TV_LONGEST_TABLE 65536u
-#define TV_FARTHEST 1073741823
-
-/* Words of a message, of a block of a level, of each of t and t2, and of an opening. Depth, level and rate must be legal. */
-#define TV_MESSAGE_LEN(depth) ((size_t)1 << (depth))
-#define TV_BLOCK_LEN(level, rate) ((size_t)(rate) << (level))
-#define TV_DIAGONALS_LEN(depth, rate) ((size_t)(rate) * (((size_t)1 << (depth)) - 1))
-#define TV_OPENING_LEN(depth, rate) ((size_t)3 * (depth) + 1 + TV_DIAGONALS_LEN(depth, rate))
-
+/* first and second are the places that the number names, else 0. */
 typedef struct {
     uint32_t number, first, second;
 } tv_answer;
 
-/* kind 1 is free and 2 an overlap, with its amount in micrometres; both are 0 when refused. */
+/* kind is TV_FREE or TV_OVERLAP, amount is in micrometres; both are 0 when refused. */
 typedef struct {
     uint32_t number, kind, amount;
 } tv_reading;
 
-#define TV_FREE 1u
-#define TV_OVERLAP 2u
+/* In what follows a length in words stands behind each slice: m is TV_MESSAGE_LEN(depth), n is TV_BLOCK_LEN(depth, rate), and l is
+ * TV_DIAGONALS_LEN(depth, rate). Level i of t and t2 begins at TV_DIAGONALS_LEN(i, rate) and has TV_BLOCK_LEN(i, rate) words. */
 
-tv_reading tv_read_clearance(uint32_t word);
+/* Reads a word as a clearance. Answers 0 or 4. */
+TV_MUST_USE tv_reading tv_read_clearance(uint32_t word);
 
-/* message: as many words as there are clearances, a power of two. */
-tv_answer tv_table_to_coefficients(const int32_t *clearances, size_t clearances_len, uint32_t *message, size_t message_len);
+/* Reads clearances (a power of two, up to TV_MAX_TABLE_LEN). Writes message (as many). */
+TV_MUST_USE tv_answer tv_table_to_coefficients(const int32_t *clearances, size_t clearances_len, uint32_t *message, size_t message_len);
 
-/* clearances and work: as many as the message has words. */
-tv_answer tv_coefficients_to_table(const uint32_t *message, size_t message_len, int32_t *clearances, size_t clearances_len,
-                                   uint32_t *work, size_t work_len);
+/* Reads message (a power of two, up to TV_MAX_TABLE_LEN). Writes clearances (as many). work: as many. */
+TV_MUST_USE tv_answer tv_coefficients_to_table(const uint32_t *message, size_t message_len, int32_t *clearances, size_t clearances_len,
+                                               uint32_t *work, size_t work_len);
 
-/* z: depth words. *value is written only when the number is 0. */
-tv_answer tv_evaluate(uint32_t depth, const uint32_t *message, size_t message_len, const uint32_t *z, size_t z_len, uint32_t *value);
+/* Reads message (m), z (depth). Writes *value, only when the number is 0: the polynomial's value at z. */
+TV_MUST_USE tv_answer tv_evaluate(uint32_t depth, const uint32_t *message, size_t message_len, const uint32_t *z, size_t z_len,
+                                  uint32_t *value);
 
-/* g: rate words. t, t2: TV_DIAGONALS_LEN words, level i from rate * (2^i - 1) on. block: TV_BLOCK_LEN(depth, rate) words. */
-tv_answer tv_encode(uint32_t depth, uint32_t rate, const uint32_t *g, size_t g_len, const uint32_t *t, size_t t_len,
-                    const uint32_t *t2, size_t t2_len, const uint32_t *message, size_t message_len, uint32_t *block, size_t block_len);
+/* Reads g (rate), t (l), t2 (l), message (m). Writes block (n): the commitment. */
+TV_MUST_USE tv_answer tv_encode(uint32_t depth, uint32_t rate, const uint32_t *g, size_t g_len, const uint32_t *t, size_t t_len,
+                                const uint32_t *t2, size_t t2_len, const uint32_t *message, size_t message_len, uint32_t *block,
+                                size_t block_len);
 
-/* work: TV_BLOCK_LEN(depth, rate) words. */
-tv_answer tv_decode(uint32_t depth, uint32_t rate, const uint32_t *g, size_t g_len, const uint32_t *t, size_t t_len,
-                    const uint32_t *t2, size_t t2_len, const uint32_t *block, size_t block_len, uint32_t *message, size_t message_len,
-                    uint32_t *work, size_t work_len);
+/* Reads g (rate), t (l), t2 (l), block (n). Writes message (m). work: n. */
+TV_MUST_USE tv_answer tv_decode(uint32_t depth, uint32_t rate, const uint32_t *g, size_t g_len, const uint32_t *t, size_t t_len,
+                                const uint32_t *t2, size_t t2_len, const uint32_t *block, size_t block_len, uint32_t *message,
+                                size_t message_len, uint32_t *work, size_t work_len);
 
-/* level is the upper one, 1 to TV_DEEPEST; t, t2 and the result have the words of one level below it. */
-tv_answer tv_fold(uint32_t level, uint32_t rate, const uint32_t *t, size_t t_len, const uint32_t *t2, size_t t2_len,
-                  const uint32_t *block, size_t block_len, uint32_t challenge, uint32_t *folded, size_t folded_len);
+/* level is the upper one, 1 to TV_MAX_DEPTH. Reads t, t2 (TV_BLOCK_LEN(level - 1, rate) each: that one level), block
+ * (TV_BLOCK_LEN(level, rate)). Writes folded (TV_BLOCK_LEN(level - 1, rate)). */
+TV_MUST_USE tv_answer tv_fold(uint32_t level, uint32_t rate, const uint32_t *t, size_t t_len, const uint32_t *t2, size_t t2_len,
+                              const uint32_t *block, size_t block_len, uint32_t challenge, uint32_t *folded, size_t folded_len);
 
-/* z, r: depth words each. opening: TV_OPENING_LEN words. work: 2 * TV_MESSAGE_LEN(depth) words. *value is the polynomial's value at z and
- * is written only when the number is 0. The opening holds, for i from depth down to 1, the three words of round i; then the value at r;
- * then the blocks of levels depth - 1 down to 0. */
-tv_answer tv_write_opening(uint32_t depth, uint32_t rate, const uint32_t *g, size_t g_len, const uint32_t *t, size_t t_len,
-                           const uint32_t *t2, size_t t2_len, const uint32_t *message, size_t message_len, const uint32_t *z, size_t z_len,
-                           const uint32_t *r, size_t r_len, uint32_t *opening, size_t opening_len, uint32_t *work, size_t work_len,
-                           uint32_t *value);
+/* Reads g (rate), t (l), t2 (l), message (m), z (depth), r (depth). Writes opening (TV_OPENING_LEN(depth, rate)) and *value, only when the
+ * number is 0: the polynomial's value at z. work: 2 * m. The opening holds, for i from depth down to 1, the three words of round i; then
+ * the value at r; then the blocks of levels depth - 1 down to 0. */
+TV_MUST_USE tv_answer tv_write_opening(uint32_t depth, uint32_t rate, const uint32_t *g, size_t g_len, const uint32_t *t, size_t t_len,
+                                       const uint32_t *t2, size_t t2_len, const uint32_t *message, size_t message_len,
+                                       const uint32_t *z, size_t z_len, const uint32_t *r, size_t r_len, uint32_t *opening,
+                                       size_t opening_len, uint32_t *work, size_t work_len, uint32_t *value);
 
-/* block: the commitment, TV_BLOCK_LEN(depth, rate) words. y: the value claimed at z. queries: 1 to TV_MOST_QUERIES places below
- * TV_BLOCK_LEN(depth - 1, rate), repeated or not; at depth 0 none. */
-tv_answer tv_verify_opening(uint32_t depth, uint32_t rate, const uint32_t *g, size_t g_len, const uint32_t *t, size_t t_len,
-                            const uint32_t *t2, size_t t2_len, const uint32_t *block, size_t block_len, const uint32_t *z, size_t z_len,
-                            uint32_t y, const uint32_t *r, size_t r_len, const uint32_t *queries, size_t queries_len,
-                            const uint32_t *opening, size_t opening_len);
+/* Reads g (rate), t (l), t2 (l), block (n: the commitment), z (depth), y (the value claimed at z), r (depth), queries (1 to TV_MAX_QUERIES
+ * places below TV_BLOCK_LEN(depth - 1, rate), repeated or not; at depth 0 none), opening (TV_OPENING_LEN(depth, rate)). */
+TV_MUST_USE tv_answer tv_verify_opening(uint32_t depth, uint32_t rate, const uint32_t *g, size_t g_len, const uint32_t *t, size_t t_len,
+                                        const uint32_t *t2, size_t t2_len, const uint32_t *block, size_t block_len, const uint32_t *z,
+                                        size_t z_len, uint32_t y, const uint32_t *r, size_t r_len, const uint32_t *queries,
+                                        size_t queries_len, const uint32_t *opening, size_t opening_len);
+
+/* What a number means, for people. */
+static inline const char *tv_number_text(uint32_t number)
+{
+    switch (number) {
+    case TV_DONE: return "done, or accepted";
+    case TV_REFUSED_DEPTH: return "refused: the depth, the upper level, or a length that is no power of two in range";
+    case TV_REFUSED_RATE: return "refused: the rate";
+    case TV_REFUSED_LENGTH: return "refused: a slice has not its exact length";
+    case TV_REFUSED_WORD: return "refused: a word is 2147483647 or more";
+    case TV_REFUSED_ROW: return "refused: a zero in the base row";
+    case TV_REFUSED_DIAGONALS: return "refused: the diagonals are equal in some place";
+    case TV_REFUSED_QUERIES: return "refused: the query list is too short or too long, or a place in it is too large";
+    case TV_REFUSED_NO_CODEWORD: return "refused: the block is no codeword";
+    case TV_REFUSED_CLEARANCE: return "refused: a clearance is out of range";
+    case TV_FAILED_SUM: return "rejected: a round does not sum to the value claimed before it";
+    case TV_FAILED_FINAL: return "rejected: the final value does not fit the last claim";
+    case TV_FAILED_BASE: return "rejected: the lowest block does not fit the final value";
+    case TV_FAILED_FOLD: return "rejected: a query finds a wrong fold";
+    default: return "a number that this header does not know: the archive is of another version";
+    }
+}
 
 #ifdef __cplusplus
 }

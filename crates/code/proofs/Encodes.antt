@@ -16,9 +16,11 @@ use Rattle.job.specs.Outcome.{done}
 use Rattle.job.specs.OutcomeLaws.{require-done, both}
 use Rattle.job.specs.Limits.{blockSize}
 use Rattle.residue.specs.Residues.{F}
-use Rattle.residue.specs.Scans.{allBelow, all-below}
-use Rattle.code.specs.Lent.{lent}
-use Rattle.code.specs.Parameters.{limits, rowLengths, rowWords, row-lengths, lent-coding}
+use Rattle.residue.specs.Scans.{allBelow}
+use Rattle.residue.specs.ScanLaws.{all-below}
+use Rattle.parameters.specs.Lent.{lent}
+use Rattle.parameters.specs.Parameters.{limits, rowLengths, rowWords}
+use Rattle.parameters.specs.ParameterLaws.{row-lengths, lent-coding}
 use Rattle.code.specs.Encoding.{encodeLengths, judgeEncoding, Encodes}
 use Rattle.code.specs.Steps.{Spreading, Lifting}
 use Rattle.code.proofs.Spreads.{length-spreaded, spreaded}

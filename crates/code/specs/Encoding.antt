@@ -5,16 +5,14 @@ use mathlib.Core.List.{List}
 use Prim.Native.Nat.{ℕ, _^_}
 use lib.Dec.{eqb}
 use lib.ListN.{length}
-use Rattle.algebra.specs.Words.{𝔽₁}
-use Rattle.algebra.specs.WordLists.{Low, elements, toWords}
-use Rattle.foldable.specs.Code.{encode}
+use Rattle.algebra.specs.WordLists.{Low}
 use Rattle.job.specs.declared.Answer.{Answer}
-use Rattle.job.specs.Outcome.{Outcome, outcome, require, _⨾_, kept}
+use Rattle.job.specs.Outcome.{Outcome, outcome, kept}
 use Rattle.job.specs.Limits.{blockSize}
-use Rattle.residue.specs.Residues.{P, F}
+use Rattle.residue.specs.Residues.{P}
 use Rattle.residue.specs.Scans.{allBelow}
-use Rattle.code.specs.Lent.{lent, Coding}
-use Rattle.code.specs.Parameters.{limits, rowLengths, rowWords, legalRow}
+use Rattle.parameters.specs.Lent.{codeword, Coding}
+use Rattle.parameters.specs.Parameters.{rowLengths, rowWords, judgeRow}
 
 -- of the lengths of g, T, T', message and result
 unfoldable pub encodeLengths : ℕ → ℕ → ℕ → ℕ → ℕ → ℕ → ℕ → Bool
@@ -23,14 +21,12 @@ encodeLengths d c g t t' m n = rowLengths d c g t t' && (eqb m (2 ^ d) && eqb n 
 -- the outcome, with a result of n words
 unfoldable pub judgeEncoding : ℕ → ℕ → List ℕ → List ℕ → List ℕ → List ℕ → ℕ → Outcome (Unit {0})
 judgeEncoding d c g t t' m n =
-    limits d c
-    ⨾ require (encodeLengths d c (length g) (length t) (length t') (length m) n) 3
-    ⨾ require (rowWords g t t' && allBelow m) 4 ⨾ legalRow g t t'
+    judgeRow d c g t t' (encodeLengths d c (length g) (length t) (length t') (length m) n) (rowWords g t t' && allBelow m)
 
 -- answer r and result out: refused as above, and out as it was; or out is the message times the generator matrix
 pub record Encoded (d c : ℕ) (g t t' m old : List ℕ) (r : Answer) (out : List ℕ) : Type 0 where
   pub answer : outcome r ≡ judgeEncoding d c g t t' m (length old)
-  pub result : out ≡ kept (judgeEncoding d c g t t' m (length old)) old (toWords 𝔽₁ (encode F (lent g t t') d (elements 𝔽₁ m)))
+  pub result : out ≡ kept (judgeEncoding d c g t t' m (length old)) old (codeword d g t t' m)
 
 -- what the work is lent: exact lengths, words below the modulus, a legal row and diagonals
 pub record Encodes (d : ℕ) (g t t' m : List ℕ) (n : ℕ) : Type 0 where

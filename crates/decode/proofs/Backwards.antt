@@ -12,17 +12,17 @@ use Rattle.algebra.specs.Parts.{filled-part-back}
 use Rattle.algebra.specs.Words.{𝔽₁}
 use Rattle.algebra.specs.WordLists.{elements, toWords}
 use Rattle.residue.specs.Residues.{P, el}
+use Rattle.inversion.specs.Strides.{stride-within, stride-back}
 use Rattle.code.specs.Encoding.{Encodes}
 use Rattle.code.specs.Steps.{times}
 use Rattle.code.proofs.Spreads.{spreaded, length-spreaded, spread-part}
-use Rattle.decode.specs.Steps.{Spreading, Again}
-use Rattle.decode.proofs.Strides.{within, back}
+use Rattle.decode.specs.Steps.{SpreadLent, MessageLent}
 
 -- the places from e on hold base blocks, and those before it what they held
 abbrev pub SpreadFrom : ℕ → List ℕ → List ℕ → ℕ → List ℕ → Type 0
 SpreadFrom n g w e out = Filled e w (spreaded (take n w) g) out
 
-module _ (n : ℕ) (g w : List ℕ) (𝓢 : Spreading n g w) where
+module _ (n : ℕ) (g w : List ℕ) (𝓢 : SpreadLent n g w) where
   pub fits : n ≤ length w
   fits = omega (arith, 𝓢 .size, mul-le-mul-left n (𝓢 .some), mul-one n)
 
@@ -40,10 +40,10 @@ module _ (n : ℕ) (g w : List ℕ) (𝓢 : Spreading n g w) where
 
   module _ (i e : ℕ) (out : List ℕ) (lo : 0 < i) (hi : i ≤ n) (at : e ≡ i * length g) (p : SpreadFrom n g w e out) where
     pub starts : e ≡ (i - 1) * length g + length g
-    starts = back i (length g) e lo at
+    starts = stride-back i (length g) e lo at
 
     pub ends : e ≤ length w
-    ends = omega (arith, starts, within (i - 1) (length g) n (omega arith), 𝓢 .size)
+    ends = omega (arith, starts, stride-within (i - 1) (length g) n (omega arith), 𝓢 .size)
 
     -- the word that is read is the message's
     word-is : getD out (i - 1) 0 ≡ getD (take n w) (i - 1) 0
@@ -65,11 +65,11 @@ module _ (n : ℕ) (g w : List ℕ) (𝓢 : Spreading n g w) where
   back-end i e out z at p = let none : e ≡ 0 = at ∙ ap (λ k. k * length g) z ∙ zero-mul (length g) in filled-front (rw none at p)
 
 -- a message in front of a block is encoded there
-module _ (d : ℕ) (g t t' w : List ℕ) (𝓐 : Again d g t t' w) where
+module _ (d : ℕ) (g t t' w : List ℕ) (𝓐 : MessageLent d g t t' w) where
   blocks : length w ≡ 2 ^ d * length g
   blocks = 𝓐 .size ∙ mul-comm (length g) (2 ^ d)
 
-  pub spreading : Spreading (2 ^ d) g w
+  pub spreading : SpreadLent (2 ^ d) g w
   spreading = record { some = 𝓐 .some; message = 𝓐 .message; row = 𝓐 .coding .row; size = blocks }
 
   abbrev pub message : List ℕ

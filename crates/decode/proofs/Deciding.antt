@@ -16,12 +16,14 @@ use Rattle.foldable.specs.Code.{encode, Codeword}
 use Rattle.foldable.specs.Decode.{decodes, length-decode}
 use Rattle.foldable.specs.Encode.{length-encode}
 use Rattle.residue.specs.Residues.{P, F}
-use Rattle.code.specs.Lent.{lent}
+use Rattle.residue.specs.Scans.{allSame}
+use Rattle.parameters.specs.Lent.{lent, codeword}
+use Rattle.undo.specs.Steps.{Decodes, decoded}
 use Rattle.job.specs.declared.Answer.the-variants.{Done, Refused}
 use Rattle.job.specs.declared.Refusal.the-variants.{NoCodeword}
 use Rattle.decode.specs.Decoding.{Settled, message, none}
 use Rattle.decode.specs.Laws.{decoder}
-use Rattle.decode.specs.Steps.{allSame, Decodes, decoded, Again}
+use Rattle.decode.specs.Steps.{MessageLent}
 
 same-is : (v w : List ℕ) → length w ≡ length v → allSame v w ≡ true → v ≡ w
 same-is v w l e = ext-getD 0 v w (sym l) (λ k h. eqb-true _ _ (all₂-at eqb v w 0 e k h (omega arith)))
@@ -47,20 +49,17 @@ module _ (d : ℕ) (g t t' b : List ℕ) (k : ℕ) (𝓓 : Decodes d g t t' b k)
   low-decoded = low-words 𝔽₁ _
 
   -- the message is encoded again
-  pub again : (w : List ℕ) → length w ≡ k → take (2 ^ d) w ≡ decoded d g t t' b → Again d g t t' w
+  pub again : (w : List ℕ) → length w ≡ k → take (2 ^ d) w ≡ decoded d g t t' b → MessageLent d g t t' w
   again w l e = record { coding = 𝓓 .coding; depth = 𝓓 .depth; some = omega (arith, 𝓓 .narrow); message = rw e low-decoded; size = l ∙ 𝓓 .work }
 
   -- and compared
   abbrev pub coded : List ℕ
-  coded = toWords 𝔽₁ (encode F (lent g t t') d (elements 𝔽₁ (decoded d g t t' b)))
+  coded = codeword d g t t' (decoded d g t t' b)
 
   length-coded : length coded ≡ length b
   length-coded =
       length-words 𝔽₁ _ ∙ length-encode F (lent g t t') d (𝓓 .coding .legal) _
       ∙ ap (λ n. n * 2 ^ d) (length-elements 𝔽₁ g) ∙ sym (𝓓 .size)
-
-  pub same-lengths : (w : List ℕ) → w ≡ coded → length b ≡ length w
-  same-lengths w e = sym (ap length e ∙ length-coded)
 
   pub found : (old out : List ℕ) → allSame coded b ≡ true → out ≡ decoded d g t t' b → Settled d g t t' b old Done out
   found old out e q =

@@ -1,11 +1,5 @@
--- Laws that belong to no one function.
+-- Lemmas of decoding.
+--     Backwards    the base blocks of a message that stands in front of them
+--     Deciding     a block is a codeword exactly where it is that of the message which its first column allows
 pub mod Backwards
 pub mod Deciding
-pub mod Inverting
-pub mod Lines
-pub mod Messages
-pub mod Places
-pub mod Preparing
-pub mod Strides
-pub mod Uncrossing
-pub mod Undoing

@@ -1,4 +1,4 @@
--- The job of decoding: its answer, its result and its work buffer, for every input. Assumes nothing.
+-- The job of decoding: its answer, its result and its work buffer, for every input. Definitions only. Assumes nothing.
 use mathlib.Core.Path.{_≡_}
 use mathlib.Core.Bool.{Bool, _&&_}
 use mathlib.Core.List.{List}
@@ -9,12 +9,12 @@ use Rattle.algebra.specs.Words.{𝔽₁}
 use Rattle.algebra.specs.WordLists.{Low, elements}
 use Rattle.foldable.specs.Code.{encode, Codeword}
 use Rattle.job.specs.declared.Answer.{Answer}
-use Rattle.job.specs.Outcome.{Outcome, refused, done, outcome, require, _⨾_}
+use Rattle.job.specs.Outcome.{Outcome, refused, done, outcome}
 use Rattle.job.specs.Limits.{blockSize}
 use Rattle.residue.specs.Residues.{P, F}
 use Rattle.residue.specs.Scans.{allBelow}
-use Rattle.code.specs.Lent.{lent}
-use Rattle.code.specs.Parameters.{limits, rowLengths, rowWords, legalRow}
+use Rattle.parameters.specs.Lent.{lent}
+use Rattle.parameters.specs.Parameters.{rowLengths, rowWords, judgeRow}
 
 -- of the lengths of g, T, T', block, result and work buffer
 unfoldable pub decodeLengths : ℕ → ℕ → ℕ → ℕ → ℕ → ℕ → ℕ → ℕ → Bool
@@ -23,9 +23,7 @@ decodeLengths d c g t t' b m k = rowLengths d c g t t' && (eqb b (blockSize c d)
 -- the refusals 1 to 6, with a result of m words and a work buffer of k
 unfoldable pub judgeDecoding : ℕ → ℕ → List ℕ → List ℕ → List ℕ → List ℕ → ℕ → ℕ → Outcome (Unit {0})
 judgeDecoding d c g t t' b m k =
-    limits d c
-    ⨾ require (decodeLengths d c (length g) (length t) (length t') (length b) m k) 3
-    ⨾ require (rowWords g t t' && allBelow b) 4 ⨾ legalRow g t t'
+    judgeRow d c g t t' (decodeLengths d c (length g) (length t) (length t') (length b) m k) (rowWords g t t' && allBelow b)
 
 -- answer r and result out for a block for which none of these is due: out is a message whose codeword it is; or it is no codeword, and out is as it was
 pub data Settled (d : ℕ) (g t t' b old : List ℕ) (r : Answer) (out : List ℕ) : Type 0 where

@@ -22,11 +22,13 @@ use Rattle.job.specs.OutcomeLaws.{require-done, held, both, same-answer}
 use Rattle.job.specs.Limits.{maxDepth, depthOk, rateOk, blockSize, diagonalsSize}
 use Rattle.job.specs.LimitLaws.{rate-least, rate-most}
 use Rattle.residue.specs.Residues.{P, F, K, el, inv}
-use Rattle.residue.specs.Scans.{allBelow, noneZero, allDiffer, all-below, none-zero, all-differ}
-use Rattle.code.specs.Lent.{lent}
-use Rattle.code.specs.Parameters.{limits, rowLengths, rowWords, within, row-lengths, lent-coding}
+use Rattle.residue.specs.Scans.{allBelow, noneZero, allDiffer}
+use Rattle.residue.specs.ScanLaws.{all-below, none-zero, all-differ}
+use Rattle.parameters.specs.Lent.{lent}
+use Rattle.parameters.specs.Parameters.{limits, rowLengths, rowWords}
+use Rattle.parameters.specs.ParameterLaws.{within, row-lengths, lent-coding}
+use Rattle.undo.specs.Steps.{Decodes}
 use Rattle.decode.specs.Decoding.{decodeLengths, judgeDecoding, Settled, message, none, Decoded, refusal, settled}
-use Rattle.decode.specs.Steps.{Decodes}
 
 infixr 71 _⊛_
 open Vectors (vectors K) using (_⊛_)

@@ -1,24 +1,20 @@
 // The message of a codeword.
 ghost use mathlib.Core.Path.{_≡_};
-ghost use mathlib.Core.Bool.{true};
+ghost use mathlib.Core.Bool.{_&&_};
 ghost use Prim.Native.Nat.{_^_};
-ghost use lib.ListN.{length};
-ghost use Rattle.algebra.specs.Words.{𝔽₁};
-ghost use Rattle.algebra.specs.WordLists.{elements, toWords};
-ghost use Rattle.foldable.specs.Code.{encode as codeword};
+ghost use lib.ListN.{length, replicate};
 ghost use Rattle.job.specs.Outcome.{outcome};
-ghost use Rattle.job.specs.Limits.{depthOk, rateOk};
-ghost use Rattle.residue.specs.Residues.{F};
-ghost use Rattle.code.specs.Lent.{lent};
+ghost use Rattle.residue.specs.Scans.{allSame};
+ghost use Rattle.parameters.specs.Lent.{codeword};
+ghost use Rattle.parameters.specs.Parameters.{inLimits};
+ghost use Rattle.undo.specs.Steps.{Decodes, decoded};
 ghost use Rattle.decode.specs.Decoding.{decodeLengths, judgeDecoding, Settled, Decoded};
-ghost use Rattle.decode.specs.Steps.{allSame, decoded, Decodes};
 use crate::again;
-use crate::message;
-use crate::same;
-use code::parameters;
 use job::Answer;
 use job::Refusal;
+use residue::scan;
 use residue::words;
+use undo::message;
 
 // Whether the block is the codeword of the only message that it allows.
 fn is_codeword(
@@ -30,11 +26,11 @@ fn is_codeword(
     work: &mut [u32],
 ) -> bool
     requires { ⌜ Decodes depth (now g) (now t) (now t2) (now block) (length (now work)) ⌝ }
-    ensures { λ r. ⌜ r ≡ allSame (toWords 𝔽₁ (codeword F (lent (now (g .entry)) (now (t .entry)) (now (t2 .entry))) depth (elements 𝔽₁ (decoded depth (now (g .entry)) (now (t .entry)) (now (t2 .entry)) (now (block .entry)))))) (now (block .entry)) ⌝ }
+    ensures { λ r. ⌜ r ≡ allSame (codeword depth (now (g .entry)) (now (t .entry)) (now (t2 .entry)) (decoded depth (now (g .entry)) (now (t .entry)) (now (t2 .entry)) (now (block .entry)))) (now (block .entry)) ⌝ }
 {
     message::message_of(depth, g, t, t2, block, work);
     again::encode_again(depth, g, t, t2, work);
-    same::same(work, block)
+    scan::all_same(work, block)
 }
 
 // The message, in out.
@@ -55,7 +51,15 @@ fn give(
     words::copy(&work[..n], out);
 }
 
-// Of exact lengths. The work buffer is cleared by the caller.
+// An answer, with the work buffer cleared.
+fn cleared(answer: Answer, work: &mut [u32]) -> Answer
+    ensures { λ r. ⌜ (r ≡ answer) × (now (work .exit) ≡ replicate (length (now (work .entry))) 0) ⌝ }
+{
+    words::clear(work);
+    answer
+}
+
+// Of exact lengths.
 fn settle(
     depth: u32,
     g: &[u32],
@@ -66,13 +70,13 @@ fn settle(
     work: &mut [u32],
 ) -> Answer
     requires { ⌜ (Decodes depth (now g) (now t) (now t2) (now block) (length (now work))) × (length (now out) ≡ 2 ^ depth) ⌝ }
-    ensures { λ r. ⌜ Settled depth (now (g .entry)) (now (t .entry)) (now (t2 .entry)) (now (block .entry)) (now (out .entry)) r (now (out .exit)) ⌝ }
+    ensures { λ r. ⌜ (Settled depth (now (g .entry)) (now (t .entry)) (now (t2 .entry)) (now (block .entry)) (now (out .entry)) r (now (out .exit))) × (now (work .exit) ≡ replicate (length (now (work .entry))) 0) ⌝ }
 {
     if !is_codeword(depth, g, t, t2, block, work) {
-        return Answer::Refused(Refusal::NoCodeword);
+        return cleared(Answer::Refused(Refusal::NoCodeword), work);
     }
     give(depth, g, t, t2, block, out, work);
-    Answer::Done
+    cleared(Answer::Done, work)
 }
 
 fn lengths_ok(
@@ -85,13 +89,12 @@ fn lengths_ok(
     out: usize,
     work: usize,
 ) -> bool
-    requires { ⌜ (depthOk depth ≡ true) × (rateOk rate ≡ true) ⌝ }
-    ensures { λ r. ⌜ r ≡ decodeLengths depth rate g t t2 block out work ⌝ }
+    ensures { λ r. ⌜ r ≡ (inLimits depth rate && decodeLengths depth rate g t t2 block out work) ⌝ }
 {
-    let n = job::block_len(depth, rate);
     if !parameters::lengths_ok(depth, rate, g, t, t2) {
         return false;
     }
+    let n = job::block_len(depth, rate);
     if block != n {
         return false;
     }
@@ -113,11 +116,7 @@ fn judge(
 ) -> Answer
     ensures { λ r. ⌜ outcome r ≡ judgeDecoding depth rate (now (g .entry)) (now (t .entry)) (now (t2 .entry)) (now (block .entry)) out work ⌝ }
 {
-    let limits = parameters::limits(depth, rate);
-    if let Answer::Refused(r) = limits {
-        return Answer::Refused(r);
-    }
-    if !lengths_ok(
+    let lengths = lengths_ok(
         depth,
         rate,
         g.len(),
@@ -126,11 +125,9 @@ fn judge(
         block.len(),
         out,
         work,
-    ) {
-        return Answer::Refused(Refusal::Length);
-    }
-    let words = parameters::all_words_ok(g, t, t2, block);
-    parameters::legal(words, g, t, t2)
+    );
+    let words = parameters::all_words_ok(lengths, g, t, t2, block);
+    parameters::judge(depth, rate, g, t, t2, lengths, words)
 }
 
 pub fn decode(
@@ -147,9 +144,7 @@ pub fn decode(
 {
     let answer = judge(depth, rate, g, t, t2, block, out.len(), work.len());
     if let Answer::Done = answer {
-        let settled = settle(depth, g, t, t2, block, out, work);
-        words::clear(work);
-        return settled;
+        return settle(depth, g, t, t2, block, out, work);
     }
     answer
 }

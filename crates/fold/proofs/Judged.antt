@@ -1,30 +1,44 @@
 -- From the job's tests to the outcome that is due, and from an outcome without refusal to what holds of the input. Assumes nothing.
-use mathlib.Core.Path.{_≡_, sym, ap, _∙_}
-use mathlib.Core.Bool.{true, false, _&&_}
+use mathlib.Core.Path.{_≡_, refl, sym, ap, _∙_}
+use mathlib.Core.Bool.{Bool, true, false, not, _&&_}
 use mathlib.Core.List.{List}
 use Prim.Native.Nat.{ℕ, suc, _+_, _*_, _-_, _^_, _<_, _≤_}
+use native.Mathlib.Nat.{mul-one}
 use native.Mathlib.Omega.{arith}
 use lib.Dec.{leb, eqb}
 use lib.ListN.{length}
 use borrow.Author.Tests.{leb-true, ltb-true, eqb-true}
+use Rattle.algebra.specs.Flags.{passes}
 use Rattle.algebra.specs.Tests.{and-both}
 use Rattle.algebra.specs.WordLists.{Low}
 use Rattle.foldable.specs.Encode.{double}
-use Rattle.job.specs.Limits.{maxDepth, rateOk, blockSize}
-use Rattle.job.specs.Outcome.{refused, done, outcome, kept}
+use Rattle.job.specs.Limits.{maxDepth, maxRate, rateOk, blockSize}
+use Rattle.job.specs.LimitLaws.{rate-most}
+use Rattle.job.specs.Outcome.{Outcome, done, require, _⨾_}
 use Rattle.job.specs.OutcomeLaws.{require-done, held}
-use Rattle.job.specs.declared.Refusal.{Refusal}
-use Rattle.job.specs.declared.Answer.the-variants.{Done, Refused}
 use Rattle.residue.specs.Residues.{P}
-use Rattle.residue.specs.Scans.{allBelow, allDiffer, all-below, all-differ}
-use Rattle.fold.specs.Job.{levelOk, lengthsOk, wordsOk, judgeFolding, foldWords, Folded}
-use Rattle.fold.specs.Steps.{Diagonals}
+use Rattle.residue.specs.Scans.{allBelow, allDiffer}
+use Rattle.residue.specs.ScanLaws.{all-below, all-differ}
+use Rattle.inversion.specs.Inversion.{Diagonals}
+use Rattle.fold.specs.Job.{levelOk, foldLimits, lengthsOk, wordsOk, judgeFolding}
 
 pub level-bounds : (level : ℕ) → levelOk level ≡ true → (1 ≤ level) × (level ≤ maxDepth)
 unfolding levelOk
 level-bounds level e =
     let b = and-both (leb 1 level) (leb level maxDepth) e in
     (leb-true 1 level (b .0), leb-true level maxDepth (b .1))
+
+pub record Bounds (level rate : ℕ) : Type 0 where
+  pub least : 1 ≤ level
+  pub most : level ≤ maxDepth
+  pub rate-most : rate ≤ maxRate
+
+-- where a test of level and rate passes
+pub bounds : (level rate : ℕ) {r : Bool} → r ≡ foldLimits level rate → not r ≡ false → Bounds level rate
+bounds level rate e h =
+    let b = and-both (levelOk level) (rateOk rate) (passes e h) in
+    let l = level-bounds level (b .0) in
+    record { least = l .0; most = l .1; rate-most = rate-most rate (b .1) }
 
 pub record Lengths (n m t t2 block out : ℕ) : Type 0 where
   pub first : t ≡ n
@@ -47,46 +61,56 @@ twice : (rate level : ℕ) → 1 ≤ level → blockSize rate level ≡ blockSiz
 twice rate level h = let up : level ≡ suc (level - 1) = omega arith in ap (λ i. rate * 2 ^ i) up ∙ double rate (level - 1)
 
 module _ (level rate : ℕ) (t t2 block : List ℕ) (a out : ℕ) where
-  -- the outcome, by the first test that fails
-  pub due-1 : levelOk level ≡ false → refused 1 ≡ judgeFolding level rate t t2 block a out
-  unfolding judgeFolding
-  due-1 e = sym (rw e)
+  abbrev A : Bool
+  A = levelOk level
 
-  pub due-2 : levelOk level ≡ true → rateOk rate ≡ false → refused 2 ≡ judgeFolding level rate t t2 block a out
-  unfolding judgeFolding
-  due-2 e f = sym (rw (e, f))
+  abbrev B : Bool
+  B = rateOk rate
 
-  pub due-3 : levelOk level ≡ true → rateOk rate ≡ true → lengthsOk level rate (length t) (length t2) (length block) out ≡ false
-      → refused 3 ≡ judgeFolding level rate t t2 block a out
-  unfolding judgeFolding
-  due-3 e f g = sym (rw (e, f, g))
+  abbrev L : Bool
+  L = lengthsOk level rate (length t) (length t2) (length block) out
 
-  pub due-4 : levelOk level ≡ true → rateOk rate ≡ true → lengthsOk level rate (length t) (length t2) (length block) out ≡ true
-      → wordsOk t t2 block a ≡ false → refused 4 ≡ judgeFolding level rate t t2 block a out
-  unfolding judgeFolding
-  due-4 e f g h = sym (rw (e, f, g, h))
+  abbrev W : Bool
+  W = wordsOk t t2 block a
 
-  pub due-6 : levelOk level ≡ true → rateOk rate ≡ true → lengthsOk level rate (length t) (length t2) (length block) out ≡ true
-      → wordsOk t t2 block a ≡ true → allDiffer t t2 ≡ false → refused 6 ≡ judgeFolding level rate t t2 block a out
-  unfolding judgeFolding
-  due-6 e f g h i = sym (rw (e, f, g, h, i))
+  abbrev D : Bool
+  D = allDiffer t t2
 
-  pub due-none : levelOk level ≡ true → rateOk rate ≡ true → lengthsOk level rate (length t) (length t2) (length block) out ≡ true
-      → wordsOk t t2 block a ≡ true → allDiffer t t2 ≡ true → done tt ≡ judgeFolding level rate t t2 block a out
+  -- the chain as it is judged, where a later test is only asked if the earlier ones hold
+  pub judged : {upper fair lengths words apart : Bool} {six four three two r : Outcome (Unit {0})}
+      → upper ≡ levelOk level → fair ≡ rateOk rate → lengths ≡ (foldLimits level rate && lengthsOk level rate (length t) (length t2) (length block) out)
+      → words ≡ (lengths && wordsOk t t2 block a) → apart ≡ (words && allDiffer t t2)
+      → six ≡ require apart 6 ⨾ done tt → four ≡ require words 4 ⨾ six → three ≡ require lengths 3 ⨾ four → two ≡ require fair 2 ⨾ three → r ≡ require upper 1 ⨾ two
+      → r ≡ judgeFolding level rate t t2 block a out
   unfolding judgeFolding
-  due-none e f g h i = sym (rw (e, f, g, h, i))
+  judged e f g h i p q r s u =
+      u ∙ (λ k. require (e k) 1 ⨾ s k) ∙ (λ k. require A 1 ⨾ require (f k) 2 ⨾ r k)
+      ∙ (λ k. require A 1 ⨾ require B 2 ⨾ require (g k) 3 ⨾ q k)
+      ∙ (λ k. require A 1 ⨾ require B 2 ⨾ require ((A && B) && L) 3 ⨾ require ((h ∙ ap (λ b. b && W) g) k) 4 ⨾ p k)
+      ∙ (λ k. require A 1 ⨾ require B 2 ⨾ require ((A && B) && L) 3 ⨾ require (((A && B) && L) && W) 4 ⨾ require ((i ∙ ap (λ b. b && D) (h ∙ ap (λ b. b && W) g)) k) 6 ⨾ done tt)
+      ∙ by A B L W D
+    where
+      by : (a b l w d : Bool)
+          → require a 1 ⨾ require b 2 ⨾ require ((a && b) && l) 3 ⨾ require (((a && b) && l) && w) 4 ⨾ require ((((a && b) && l) && w) && d) 6 ⨾ done tt
+          ≡ require a 1 ⨾ require b 2 ⨾ require l 3 ⨾ require w 4 ⨾ require d 6
+      by false b l w d = refl
+      by true false l w d = refl
+      by true true false w d = refl
+      by true true true false d = refl
+      by true true true true false = refl
+      by true true true true true = refl
 
-  -- what holds where none does
-  pub record Ready : Type 0 where
-    pub diagonals : Diagonals out t t2
+  -- what holds where no refusal is due
+  pub record Unrefused : Type 0 where
+    pub diagonals : Diagonals 1 out t t2
     pub whole : length block ≡ out + out
     pub low : Low P block
     pub challenge : a < P
     pub size : out ≡ blockSize rate (level - 1)
 
-  pub ready : judgeFolding level rate t t2 block a out ≡ done tt → Ready
+  pub unrefused : judgeFolding level rate t t2 block a out ≡ done tt → Unrefused
   unfolding judgeFolding wordsOk
-  ready e =
+  unrefused e =
       let level-passes = require-done (levelOk level) 1 e in
       let rate-passes = require-done (rateOk rate) 2 (level-passes .1) in
       let lengths-pass = require-done (lengthsOk level rate (length t) (length t2) (length block) out) 3 (rate-passes .1) in
@@ -99,32 +123,15 @@ module _ (level rate : ℕ) (t t2 block : List ℕ) (a out : ℕ) where
       let n = l .result in
       record {
         diagonals = record {
-          first = l .first ∙ sym n;
-          second = l .second ∙ sym n;
+          some = omega arith;
+          first = l .first ∙ sym (mul-one out ∙ n);
+          second = l .second ∙ sym (mul-one out ∙ n);
           low = all-below t (first .0);
-          low2 = all-below t2 (second .0);
-          differ = λ k h. all-differ t t2 differ k (omega (arith, l .first)) (omega (arith, l .second));
+          low' = all-below t2 (second .0);
+          differ = λ k h. all-differ t t2 differ (k * 1) (omega (arith, l .first, mul-one k)) (omega (arith, l .second, mul-one k));
         };
         whole = l .whole ∙ twice rate level (level-bounds level (level-passes .0) .0) ∙ ap (λ m. m + m) (sym n);
         low = all-below block (second .1);
         challenge = ltb-true a P (words .1);
         size = n;
       }
-
--- the job done, and the job refused
-module _ (level rate : ℕ) (t t2 block : List ℕ) (a : ℕ) (old : List ℕ) where
-  wanted : List ℕ
-  wanted = foldWords (blockSize rate (level - 1)) t t2 block a
-
-  pub folded-done : {new : List ℕ} → judgeFolding level rate t t2 block a (length old) ≡ done tt → new ≡ foldWords (length old) t t2 block a
-      → Folded level rate t t2 block a old Done new
-  unfolding wanted
-  folded-done e p = record {
-    answer = sym e;
-    result =
-        p ∙ ap (λ n. foldWords n t t2 block a) (ready level rate t t2 block a (length old) e .size) ∙ sym (ap (λ o. kept o old wanted) e);
-  }
-
-  pub folded-refused : (x : Refusal) → outcome (Refused x) ≡ judgeFolding level rate t t2 block a (length old) → Folded level rate t t2 block a old (Refused x) old
-  unfolding wanted
-  folded-refused x e = record { answer = e; result = ap (λ o. kept o old wanted) e }

@@ -14,9 +14,13 @@ use Rattle.job.specs.declared.Answer.{Answer}
 use Rattle.residue.specs.Residues.{P, F, el}
 use Rattle.residue.specs.Scans.{allBelow, allDiffer}
 
--- the upper level is 1 to 16
+-- the upper level: at least 1
 unfoldable pub levelOk : ℕ → Bool
 levelOk level = leb 1 level && leb level maxDepth
+
+-- level and rate as one test
+abbrev pub foldLimits : ℕ → ℕ → Bool
+foldLimits level rate = levelOk level && rateOk rate
 
 -- the numbers of words lent: n_i for T_i, for T'_i and for the result, n_(i+1) for the block
 unfoldable pub lengthsOk : ℕ → ℕ → ℕ → ℕ → ℕ → ℕ → Bool

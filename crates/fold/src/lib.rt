@@ -1,20 +1,20 @@
 // Folding a block by one level.
 ghost use mathlib.Core.Path.{_≡_};
-ghost use Prim.Native.Nat.{_+_, _<_, _≤_};
+ghost use mathlib.Core.Bool.{_&&_};
+ghost use Prim.Native.Nat.{_+_};
 ghost use lib.ListN.{length};
-ghost use Rattle.algebra.specs.WordLists.{Low};
-ghost use Rattle.job.specs.Limits.{maxDepth, maxRate};
+ghost use Rattle.algebra.specs.WordLists.{Low as LowWords};
 ghost use Rattle.job.specs.Outcome.{outcome};
-ghost use Rattle.residue.specs.Residues.{P};
-ghost use Rattle.fold.specs.Job.{levelOk, lengthsOk, wordsOk, judgeFolding, foldWords, Folded};
-ghost use Rattle.fold.specs.Steps.{Diagonals};
+ghost use Rattle.residue.specs.Residues.{P, Low};
+ghost use Rattle.residue.specs.Scans.{allDiffer};
+ghost use Rattle.inversion.specs.Inversion.{Diagonals};
+ghost use Rattle.fold.specs.Job.{levelOk, foldLimits, lengthsOk, wordsOk, judgeFolding, foldWords, Folded};
 use job::Answer;
 use job::Refusal;
 use residue::Residue;
+use residue::scan;
 
-mod inverses;
 mod lines;
-mod words;
 
 // A block of level 0 cannot be folded.
 fn level_ok(level: u32) -> bool
@@ -26,11 +26,22 @@ fn level_ok(level: u32) -> bool
     level <= job::MAX_DEPTH
 }
 
-// By the numbers of words lent.
-fn lengths_ok(level: u32, rate: u32, t: usize, t2: usize, block: usize, out: usize) -> bool
-    requires { ⌜ (1 ≤ level) × (level ≤ maxDepth) × (rate ≤ maxRate) ⌝ }
-    ensures { λ r. ⌜ r ≡ lengthsOk level rate t t2 block out ⌝ }
+fn limits_ok(level: u32, rate: u32) -> bool
+    ensures { λ r. ⌜ r ≡ foldLimits level rate ⌝ }
 {
+    if !level_ok(level) {
+        return false;
+    }
+    job::rate_ok(rate)
+}
+
+// By the numbers of words lent, where level and rate are legal.
+fn lengths_ok(level: u32, rate: u32, t: usize, t2: usize, block: usize, out: usize) -> bool
+    ensures { λ r. ⌜ r ≡ (foldLimits level rate && lengthsOk level rate t t2 block out) ⌝ }
+{
+    if !limits_ok(level, rate) {
+        return false;
+    }
     let n = job::block_len(level - 1, rate);
     if t != n {
         return false;
@@ -44,16 +55,30 @@ fn lengths_ok(level: u32, rate: u32, t: usize, t2: usize, block: usize, out: usi
     out == n
 }
 
-fn words_ok(t: &[u32], t2: &[u32], block: &[u32], challenge: u32) -> bool
-    ensures { λ r. ⌜ r ≡ wordsOk (now (t .entry)) (now (t2 .entry)) (now (block .entry)) challenge ⌝ }
+// Where the lengths are right.
+fn words_ok(lengths: bool, t: &[u32], t2: &[u32], block: &[u32], challenge: u32) -> bool
+    ensures { λ r. ⌜ r ≡ (lengths && wordsOk (now (t .entry)) (now (t2 .entry)) (now (block .entry)) challenge) ⌝ }
 {
-    if !residue::scan::three_below(t, t2, block) {
+    if !lengths {
+        return false;
+    }
+    if !scan::three_below(t, t2, block) {
         return false;
     }
     challenge < Residue::MODULUS
 }
 
-// The first refusal that is due.
+// Where all words are below the modulus.
+fn diagonals_ok(words: bool, t: &[u32], t2: &[u32]) -> bool
+    ensures { λ r. ⌜ r ≡ (words && allDiffer (now (t .entry)) (now (t2 .entry))) ⌝ }
+{
+    if !words {
+        return false;
+    }
+    scan::all_differ(t, t2)
+}
+
+// The first refusal that is due. A later test is not run where an earlier one fails.
 fn judge(
     level: u32,
     rate: u32,
@@ -65,30 +90,24 @@ fn judge(
 ) -> Answer
     ensures { λ r. ⌜ outcome r ≡ judgeFolding level rate (now (t .entry)) (now (t2 .entry)) (now (block .entry)) challenge out ⌝ }
 {
-    if !level_ok(level) {
-        return Answer::Refused(Refusal::Depth);
-    }
-    if !job::rate_ok(rate) {
-        return Answer::Refused(Refusal::Rate);
-    }
-    if !lengths_ok(level, rate, t.len(), t2.len(), block.len(), out) {
-        return Answer::Refused(Refusal::Length);
-    }
-    if !words_ok(t, t2, block, challenge) {
-        return Answer::Refused(Refusal::Word);
-    }
-    if !residue::scan::all_differ(t, t2) {
-        return Answer::Refused(Refusal::Diagonals);
-    }
-    Answer::Done
+    let upper = level_ok(level);
+    let fair = job::rate_ok(rate);
+    let lengths = lengths_ok(level, rate, t.len(), t2.len(), block.len(), out);
+    let words = words_ok(lengths, t, t2, block, challenge);
+    let apart = diagonals_ok(words, t, t2);
+    let six = job::require(apart, Refusal::Diagonals, Answer::Done);
+    let four = job::require(words, Refusal::Word, six);
+    let three = job::require(lengths, Refusal::Length, four);
+    let two = job::require(fair, Refusal::Rate, three);
+    job::require(upper, Refusal::Depth, two)
 }
 
 // The fold, of what is judged already.
-fn fold_block(t: &[u32], t2: &[u32], block: &[u32], challenge: u32, out: &mut [u32])
-    requires { ⌜ Diagonals (length (now out)) (now t) (now t2) × (length (now block) ≡ length (now out) + length (now out)) × Low P (now block) × (challenge < P) ⌝ }
-    ensures { λ _. ⌜ now (out .exit) ≡ foldWords (length (now (out .entry))) (now (t .entry)) (now (t2 .entry)) (now (block .entry)) challenge ⌝ }
+fn fold_block(t: &[u32], t2: &[u32], block: &[u32], challenge: Residue, out: &mut [u32])
+    requires { ⌜ Diagonals 1 (length (now out)) (now t) (now t2) × (length (now block) ≡ length (now out) + length (now out)) × LowWords P (now block) × Low challenge ⌝ }
+    ensures { λ _. ⌜ now (out .exit) ≡ foldWords (length (now (out .entry))) (now (t .entry)) (now (t2 .entry)) (now (block .entry)) (challenge .0) ⌝ }
 {
-    inverses::invert_gaps(t, t2, out);
+    inversion::invert_gaps(1, t, t2, out);
     lines::draw(t, block, challenge, out);
 }
 
@@ -105,11 +124,8 @@ pub fn fold(
     ensures { λ r. ⌜ Folded level rate (now (t .entry)) (now (t2 .entry)) (now (block .entry)) challenge (now (out .entry)) r (now (out .exit)) ⌝ }
 {
     let answer = judge(level, rate, t, t2, block, challenge, out.len());
-    match answer {
-        Answer::Done => {
-            fold_block(t, t2, block, challenge, out);
-            Answer::Done
-        }
-        Answer::Refused(refusal) => Answer::Refused(refusal),
+    if let Answer::Done = answer {
+        fold_block(t, t2, block, Residue::new(challenge), out);
     }
+    answer
 }

@@ -12,8 +12,10 @@ use Rattle.foldable.specs.Code.{encode, foldAlong}
 use Rattle.job.specs.Outcome.{done}
 use Rattle.job.specs.Limits.{blockSize, diagonalsSize}
 use Rattle.residue.specs.Residues.{F, el}
-use Rattle.code.specs.Lent.{lent, diagonal, Coding, getD-diagonal, length-diagonal, level-within}
-use Rattle.code.specs.Parameters.{limits, rowLengths, rowWords, legalRow, lent-coding, row-lengths, RowLengths}
+use Rattle.parameters.specs.Lent.{lent, diagonal, Coding}
+use Rattle.parameters.specs.LentLaws.{getD-diagonal, length-diagonal, level-within}
+use Rattle.parameters.specs.Parameters.{limits, rowLengths, rowWords, legalRow}
+use Rattle.parameters.specs.ParameterLaws.{lent-coding, row-lengths, RowLengths}
 
 -- no refusal is due for depth, rate, row and diagonals
 pub record LegalRow (d c : ℕ) (g t t' : List ℕ) : Type 0 where

@@ -15,7 +15,8 @@ use Rattle.foldable.specs.Fold.{fold-split, two-challenges}
 use Rattle.foldable.specs.Prefix.{encode-prefix, codeword-prefix}
 use Rattle.job.specs.Limits.{blockSize, diagonalsSize}
 use Rattle.residue.specs.Residues.{P, F, K, el, word}
-use Rattle.code.specs.Lent.{lent, diagonal, Coding, diagonals-mono}
+use Rattle.parameters.specs.Lent.{lent, diagonal, Coding}
+use Rattle.parameters.specs.LentLaws.{diagonals-mono}
 use Rattle.laws.specs.Calls.{LegalRow, coding-of, lengths-of, levelsBelow, encoded, folded, diagonal-below}
 
 infixl 66 _⊕_

@@ -13,8 +13,9 @@ use Rattle.job.specs.Outcome.{refused, done, kept, _⨾_}
 use Rattle.job.specs.OutcomeLaws.{require-done, both}
 use Rattle.job.specs.Limits.{blockSize}
 use Rattle.residue.specs.Residues.{P}
-use Rattle.residue.specs.Scans.{allBelow, all-below}
-use Rattle.code.specs.Parameters.{limits, rowLengths, rowWords, legalRow}
+use Rattle.residue.specs.Scans.{allBelow}
+use Rattle.residue.specs.ScanLaws.{all-below}
+use Rattle.parameters.specs.Parameters.{limits, rowLengths, rowWords, legalRow}
 use Rattle.code.specs.Encoding.{encodeLengths, judgeEncoding}
 use Rattle.open.specs.Writing.{judgeWriting, writeLengths, inputLengths, bufferLengths, inputWords, valueWord, openingWords}
 use Rattle.verify.specs.Verdicts.{numbers, numbersOf}

@@ -23,8 +23,8 @@ use Rattle.foldable.specs.Encode.{length-encode}
 use Rattle.job.specs.Outcome.{done, _⨾_}
 use Rattle.job.specs.Limits.{blockSize}
 use Rattle.residue.specs.Residues.{P, F, el, word}
-use Rattle.residue.specs.Scans.{below-all}
-use Rattle.code.specs.Lent.{lent, Coding}
+use Rattle.residue.specs.ScanLaws.{below-all}
+use Rattle.parameters.specs.Lent.{lent, Coding}
 use Rattle.open.specs.Laws.{length-opening}
 use Rattle.open.specs.Writing.{openingWords, valueWord}
 use Rattle.verify.specs.Verdicts.{Numbers, numbersOf}

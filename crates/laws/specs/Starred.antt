@@ -37,8 +37,8 @@ use Rattle.residue.specs.Residues.{P, F, K, Element, el, word, inv}
 use Rattle.clearance.specs.Clearances.{residueOf, clearanceOf}
 use Rattle.table.specs.Jobs.{MessageOf}
 use Rattle.table.specs.Depth.{exponentTo}
-use Rattle.code.specs.Lent.{lent, diagonal}
-use Rattle.code.specs.Parameters.{rowLengths, rowWords}
+use Rattle.parameters.specs.Lent.{lent, diagonal}
+use Rattle.parameters.specs.Parameters.{rowLengths, rowWords}
 use Rattle.decode.specs.Decoding.{judgeDecoding, decodeLengths, Decoded, settled, message, none}
 use Rattle.verify.specs.Verdicts.{Numbers, numbersOf}
 use Rattle.verify.specs.Verifying.{verification, judgeVerifying, openedLengths, openedWords, queriesOk}

@@ -1,23 +1,17 @@
--- What a writer of openings goes by: the length of an opening, and h from what is left of the message. Assumes nothing.
+-- The length of an opening. Assumes nothing.
 use mathlib.Core.Path.{_≡_, sym, ap, ap₂, _∙_}
-use mathlib.Core.List.{List, [], _++_}
-use Prim.Native.Nat.{ℕ, suc, _+_ as _+ℕ_, _*_ as _*ℕ_, _-_ as _-ℕ_, _^_, _<_, _≤_}
-use native.Mathlib.Nat.{zero-add, add-assoc}
+use mathlib.Core.List.{List, _++_}
+use Prim.Native.Nat.{ℕ, _+_ as _+ℕ_, _*_ as _*ℕ_, _-_ as _-ℕ_, _^_}
+use native.Mathlib.Nat.{add-assoc}
 use native.Mathlib.Omega.{arith}
-use lib.ListN.{length, take, drop, getD, length-append, length-take, drop-of-length-le}
-use lib.Seq.{getD-take, take-take, drop-nil}
-use Rattle.algebra.specs.Ring.{Ring, one-mul}
+use lib.ListN.{length, length-append}
 use Rattle.algebra.specs.Field.{Field}
-use Rattle.algebra.specs.Lists.{row-ext, row-getD}
 use Rattle.basefold.specs.Layout.{openingSize}
 use Rattle.basefold.specs.Written.{rounds, blocks, opening}
 use Rattle.basefold.specs.Descent.{length-blocks}
 use Rattle.basefold.specs.Rounds.{length-rounds}
 use Rattle.foldable.specs.Code.{Code, Legal}
-use Rattle.multilinear.specs.Polynomial.{word, poly, fixed-nil}
-use Rattle.multilinear.specs.Corners.{eq, eq-nil}
-use Rattle.multilinear.specs.Rounds.{h, final, length-final}
-use Rattle.multilinear.specs.Folding.{folded, length-folded, h-folded}
+use Rattle.multilinear.specs.Rounds.{final, length-final}
 
 pub length-opening : (F : Field) (low : ℕ) (C : Code F) (m z r : List (F .ring .R)) → Legal F C (length r)
     → length (opening F low C m z r) ≡ openingSize (C .n₀) low (length r)
@@ -31,39 +25,3 @@ length-opening F low C m z r 𝓛 =
     ∙ ap₂ _+ℕ_ (length-rounds F low m z r d)
     (length-append v B ∙ ap₂ _+ℕ_ (length-final (F .ring) low m r) (length-blocks F low C m z r 𝓛 d (omega arith) ∙ ap (λ k. C .n₀ *ℕ (2 ^ d -ℕ 2 ^ k)) none))
     ∙ sym (add-assoc (3 *ℕ d) (2 ^ low) (C .n₀ *ℕ (2 ^ d -ℕ 1)))
-
-module _ (K : Ring) where
-  infixl 65 _+_
-  infixl 65 _-_
-  infixl 70 _*_
-  open Ring K using (R, _+_, _*_, _-_, 𝟘, 𝟙, mul-assoc)
-
-  -- with no challenge put in, all of the message is left
-  folded-none : (m z : List R) (i : ℕ) → length m ≡ 2 ^ (0 +ℕ i) → folded K 0 m z [] i ≡ m
-  unfolding folded
-  folded-none m z i e = rw (drop-nil i, ← e) (row-ext (length m) _ _ (λ a l. fixed-nil K (0 +ℕ i) (word K m) a) ∙ row-getD m 𝟘)
-
-  -- h in all variables of a message, from its halves
-  pub h-halves : (m y : List R) (i : ℕ) (X : R) → length y ≡ suc i → length m ≡ 2 ^ suc i
-      → h K 0 m y [] (suc i) X
-      ≡ (getD y i 𝟘 * X + (𝟙 - getD y i 𝟘) * (𝟙 - X)) * (poly K (take (2 ^ i) m) (take i y) + X * poly K (drop (2 ^ i) m) (take i y))
-  h-halves m y i X ly lm =
-      h-folded K 0 m y [] i X (omega arith)
-      ∙ rw (zero-add i, folded-none m y (suc i) (lm ∙ ap (λ n. 2 ^ n) (sym (zero-add (suc i)))), drop-of-length-le y (over i ly), eq-nil K (drop (suc i) []))
-      (ap (λ (t : R). t * (poly K (take (2 ^ i) m) (take i y) + X * poly K (drop (2 ^ i) m) (take i y))) (one-mul K _))
-    where
-      over : (i : ℕ) → length y ≡ suc i → length y ≤ suc i
-      over i e = omega arith
-
-  -- h_(i+1) is eq of the variables above times h of what is left
-  pub h-left : (m z r : List R) (i : ℕ) (X : R) → i < length z
-      → eq K (drop (suc i) z) (drop (suc i) r) * h K 0 (folded K 0 m z r (suc i)) (take (suc i) z) [] (suc i) X ≡ h K 0 m z r (suc i) X
-  h-left m z r i X l =
-      let M = folded K 0 m z r (suc i) in
-      let y = take (suc i) z in
-      let E = eq K (drop (suc i) z) (drop (suc i) r) in
-      ap (λ (t : R). E * t)
-      (h-halves M y i X (length-take (suc i) z ∙ omega arith) (length-folded K 0 m z r (suc i) ∙ ap (λ n. 2 ^ n) (zero-add (suc i)))
-      ∙ ap₂ (λ (a : R) (s : List R). (a * X + (𝟙 - a) * (𝟙 - X)) * (poly K (take (2 ^ i) M) s + X * poly K (drop (2 ^ i) M) s)) (getD-take (suc i) z i 𝟘 (omega arith)) (take-take i (suc i) z (omega arith)))
-      ∙ sym (mul-assoc E _ _)
-      ∙ sym (h-folded K 0 m z r i X (omega arith) ∙ rw (zero-add i))

@@ -1,7 +1,7 @@
 -- Writing an opening.
 --     Writing     the job: judgeWriting, Wrote
---     Steps       what the steps are lent and what they leave
---     Laws        h from what is left of the message
+--     Rounds      what a whole round is lent, and what it leaves
+--     Laws        the length of an opening
 pub mod Writing
-pub mod Steps
+pub mod Rounds
 pub mod Laws

@@ -9,20 +9,21 @@ use Rattle.algebra.specs.Words.{𝔽₁}
 use Rattle.algebra.specs.WordLists.{Low, elements, toWords}
 use Rattle.basefold.specs.Layout.{openingSize}
 use Rattle.basefold.specs.Written.{opening}
-use Rattle.job.specs.Outcome.{Outcome, refused, done, number, require, _⨾_, kept}
+use Rattle.job.specs.Outcome.{Outcome, refused, done, number, _⨾_, kept}
 use Rattle.job.specs.Limits.{maxDepth, maxRate}
 use Rattle.multilinear.specs.Polynomial.{poly}
+use Rattle.residue.specs.declared.Residue.{Residue}
 use Rattle.residue.specs.Residues.{P, F, K, word}
 use Rattle.residue.specs.Scans.{allBelow}
-use Rattle.code.specs.Lent.{lent, Coding}
-use Rattle.code.specs.Parameters.{limits, rowLengths, rowWords, legalRow}
+use Rattle.parameters.specs.Lent.{lent, Coding}
+use Rattle.parameters.specs.Parameters.{rowLengths, rowWords, judgeRow}
 use Rattle.open.specs.declared.Written.{Written}
 use Rattle.open.specs.declared.Written.the-variants.{Value, Refused}
 
 -- what an answer says: the value's word, or the refusal's number
-abbrev pub outcome : Written → Outcome ℕ
-outcome (Value v) = done v
-outcome (Refused r) = refused (number r)
+abbrev pub writtenOutcome : Written → Outcome ℕ
+writtenOutcome (Value v) = done v
+writtenOutcome (Refused r) = refused (number r)
 
 -- of the lengths of message, point and challenges
 unfoldable pub inputLengths : ℕ → ℕ → ℕ → ℕ → Bool
@@ -38,12 +39,10 @@ writeLengths d c g t t' m z r o s = rowLengths d c g t t' && (inputLengths d m z
 unfoldable pub inputWords : List ℕ → List ℕ → List ℕ → Bool
 inputWords m z r = allBelow m && (allBelow z && allBelow r)
 
--- the tests in their order, with an opening of o words and a work buffer of s
+-- the outcome, with an opening of o words and a work buffer of s
 unfoldable pub judgeWriting : ℕ → ℕ → List ℕ → List ℕ → List ℕ → List ℕ → List ℕ → List ℕ → ℕ → ℕ → Outcome (Unit {0})
 judgeWriting d c g t t' m z r o s =
-    limits d c
-    ⨾ require (writeLengths d c (length g) (length t) (length t') (length m) (length z) (length r) o s) 3
-    ⨾ require (rowWords g t t' && inputWords m z r) 4 ⨾ legalRow g t t'
+    judgeRow d c g t t' (writeLengths d c (length g) (length t) (length t') (length m) (length z) (length r) o s) (rowWords g t t' && inputWords m z r)
 
 -- the words of f(z), and of the opening
 abbrev pub valueWord : List ℕ → List ℕ → ℕ
@@ -54,12 +53,12 @@ openingWords g t t' m z r = toWords 𝔽₁ (opening F 0 (lent g t t') (elements
 
 -- answer a, opening o' and work s': refused as above, and both as they were; or f(z), the opening as it is defined, and zeros
 pub record Wrote (d c : ℕ) (g t t' m z r o s : List ℕ) (a : Written) (o' s' : List ℕ) : Type 0 where
-  pub answer : outcome a ≡ judgeWriting d c g t t' m z r (length o) (length s) ⨾ done (valueWord m z)
+  pub answer : writtenOutcome a ≡ judgeWriting d c g t t' m z r (length o) (length s) ⨾ done (valueWord m z)
   pub result : o' ≡ kept (judgeWriting d c g t t' m z r (length o) (length s)) o (openingWords g t t' m z r)
   pub work : s' ≡ kept (judgeWriting d c g t t' m z r (length o) (length s)) s (replicate (length s) 0)
 
 -- what the work is lent: exact lengths, words below the modulus, a legal row and diagonals
-pub record Writes (d : ℕ) (g t t' m z r : List ℕ) (o s : ℕ) : Type 0 where
+pub record WriteInput (d : ℕ) (g t t' m z r : List ℕ) (o s : ℕ) : Type 0 where
   pub deep : d ≤ maxDepth
   pub wide : length g ≤ maxRate
   pub coding : Coding d g t t'
@@ -73,7 +72,7 @@ pub record Writes (d : ℕ) (g t t' m z r : List ℕ) (o s : ℕ) : Type 0 where
   pub room : s ≡ 2 * 2 ^ d
 
 -- and what it leaves: the value v, the opening o' and the work s' of n words
-pub record Works (g t t' m z r : List ℕ) (n v : ℕ) (o' s' : List ℕ) : Type 0 where
-  pub value : v ≡ valueWord m z
+pub record WriteResult (g t t' m z r : List ℕ) (n : ℕ) (v : Residue) (o' s' : List ℕ) : Type 0 where
+  pub value : v .0 ≡ valueWord m z
   pub opened : o' ≡ openingWords g t t' m z r
   pub cleared : s' ≡ replicate n 0

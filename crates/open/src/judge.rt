@@ -1,18 +1,17 @@
 // What the job judges, in the order of the refusals.
 ghost use mathlib.Core.Path.{_≡_};
-ghost use mathlib.Core.Bool.{true, _&&_};
+ghost use mathlib.Core.Bool.{_&&_};
+ghost use Prim.Native.Nat.{_≤_};
 ghost use Rattle.job.specs.Outcome.{outcome};
-ghost use Rattle.job.specs.Limits.{depthOk, rateOk};
-ghost use Rattle.code.specs.Parameters.{rowWords};
+ghost use Rattle.job.specs.Limits.{maxDepth, maxRate};
+ghost use Rattle.parameters.specs.Parameters.{inLimits, rowWords};
 ghost use Rattle.open.specs.Writing.{inputLengths, bufferLengths, writeLengths, inputWords, judgeWriting};
-use code::parameters;
 use job::Answer;
-use job::Refusal;
 use residue::scan;
 
 // Of the lengths of message, point and challenges.
 fn inputs_ok(depth: u32, m: usize, z: usize, r: usize) -> bool
-    requires { ⌜ depthOk depth ≡ true ⌝ }
+    requires { ⌜ depth ≤ maxDepth ⌝ }
     ensures { λ b. ⌜ b ≡ inputLengths depth m z r ⌝ }
 {
     if m != job::message_len(depth) {
@@ -26,16 +25,16 @@ fn inputs_ok(depth: u32, m: usize, z: usize, r: usize) -> bool
 
 // Of the lengths of opening and work.
 fn buffers_ok(depth: u32, rate: u32, o: usize, s: usize) -> bool
-    requires { ⌜ (depthOk depth ≡ true) × (rateOk rate ≡ true) ⌝ }
+    requires { ⌜ (depth ≤ maxDepth) × (rate ≤ maxRate) ⌝ }
     ensures { λ b. ⌜ b ≡ bufferLengths depth rate o s ⌝ }
 {
-    let n = 3 * (depth as usize) + 1 + job::diagonals_len(depth, rate);
-    if o != n {
+    if o != layout::opening_len(depth, rate) {
         return false;
     }
     s == 2 * job::message_len(depth)
 }
 
+// Whether depth and rate are legal and all slices have the lengths that they give.
 fn lengths_ok(
     depth: u32,
     rate: u32,
@@ -48,8 +47,7 @@ fn lengths_ok(
     o: usize,
     s: usize,
 ) -> bool
-    requires { ⌜ (depthOk depth ≡ true) × (rateOk rate ≡ true) ⌝ }
-    ensures { λ b. ⌜ b ≡ writeLengths depth rate g t t2 m z r o s ⌝ }
+    ensures { λ b. ⌜ b ≡ (inLimits depth rate && writeLengths depth rate g t t2 m z r o s) ⌝ }
 {
     if !parameters::lengths_ok(depth, rate, g, t, t2) {
         return false;
@@ -60,10 +58,19 @@ fn lengths_ok(
     buffers_ok(depth, rate, o, s)
 }
 
-fn words_ok(g: &[u32], t: &[u32], t2: &[u32], m: &[u32], z: &[u32], r: &[u32]) -> bool
-    ensures { λ b. ⌜ b ≡ (rowWords (now (g .entry)) (now (t .entry)) (now (t2 .entry)) && inputWords (now (m .entry)) (now (z .entry)) (now (r .entry))) ⌝ }
+// Whether all words are below the modulus, where all lengths are right.
+fn words_ok(
+    lengths: bool,
+    g: &[u32],
+    t: &[u32],
+    t2: &[u32],
+    m: &[u32],
+    z: &[u32],
+    r: &[u32],
+) -> bool
+    ensures { λ b. ⌜ b ≡ (lengths && (rowWords (now (g .entry)) (now (t .entry)) (now (t2 .entry)) && inputWords (now (m .entry)) (now (z .entry)) (now (r .entry)))) ⌝ }
 {
-    if !parameters::words_ok(g, t, t2) {
+    if !parameters::words_ok(lengths, g, t, t2) {
         return false;
     }
     scan::three_below(m, z, r)
@@ -83,11 +90,7 @@ pub fn judge(
 ) -> Answer
     ensures { λ a. ⌜ outcome a ≡ judgeWriting depth rate (now (g .entry)) (now (t .entry)) (now (t2 .entry)) (now (m .entry)) (now (z .entry)) (now (r .entry)) o s ⌝ }
 {
-    let limits = parameters::limits(depth, rate);
-    if let Answer::Refused(n) = limits {
-        return Answer::Refused(n);
-    }
-    if !lengths_ok(
+    let lengths = lengths_ok(
         depth,
         rate,
         g.len(),
@@ -98,9 +101,7 @@ pub fn judge(
         r.len(),
         o,
         s,
-    ) {
-        return Answer::Refused(Refusal::Length);
-    }
-    let words = words_ok(g, t, t2, m, z, r);
-    parameters::legal(words, g, t, t2)
+    );
+    let words = words_ok(lengths, g, t, t2, m, z, r);
+    parameters::judge(depth, rate, g, t, t2, lengths, words)
 }

@@ -1,13 +1,13 @@
 // Writing an opening.
 ghost use lib.ListN.{length};
-ghost use Rattle.open.specs.Writing.{Writes, Works, Wrote};
+ghost use Rattle.open.specs.Writing.{WriteInput, WriteResult, Wrote};
 use job::Answer;
 use job::Refusal;
+use residue::Residue;
 use residue::words;
 
-pub mod judge;
-pub mod rounds;
-pub mod steps;
+mod judge;
+mod rounds;
 
 // The polynomial's value at the point.
 pub enum Written {
@@ -26,9 +26,9 @@ fn write_words(
     r: &[u32],
     opening: &mut [u32],
     work: &mut [u32],
-) -> u32
-    requires { ⌜ Writes depth (now g) (now t) (now t2) (now message) (now z) (now r) (length (now opening)) (length (now work)) ⌝ }
-    ensures { λ v. ⌜ Works (now (g .entry)) (now (t .entry)) (now (t2 .entry)) (now (message .entry)) (now (z .entry)) (now (r .entry)) (length (now (work .entry))) v (now (opening .exit)) (now (work .exit)) ⌝ }
+) -> Residue
+    requires { ⌜ WriteInput depth (now g) (now t) (now t2) (now message) (now z) (now r) (length (now opening)) (length (now work)) ⌝ }
+    ensures { λ v. ⌜ WriteResult (now (g .entry)) (now (t .entry)) (now (t2 .entry)) (now (message .entry)) (now (z .entry)) (now (r .entry)) (length (now (work .entry))) v (now (opening .exit)) (now (work .exit)) ⌝ }
 {
     let v = polynomial::value(message, z);
     steps::begin(message, work);
@@ -65,7 +65,10 @@ pub fn write_opening(
         work.len(),
     );
     match answer {
-        Answer::Done => Written::Value(write_words(depth, g, t, t2, message, z, r, opening, work)),
+        Answer::Done => {
+            let v = write_words(depth, g, t, t2, message, z, r, opening, work);
+            Written::Value(v.word())
+        }
         Answer::Refused(n) => Written::Refused(n),
     }
 }

@@ -2,21 +2,16 @@
 ghost use mathlib.Core.Path.{_≡_};
 ghost use Prim.Native.Nat.{_^_};
 ghost use lib.ListN.{length, take, getD, set};
-ghost use Rattle.algebra.specs.Words.{𝔽₁};
-ghost use Rattle.algebra.specs.WordLists.{elements, toWords};
 ghost use Rattle.basefold.specs.Layout.{finalAt};
-ghost use Rattle.basefold.specs.Written.{opening as written};
-ghost use Rattle.residue.specs.Residues.{F};
-ghost use Rattle.code.specs.Lent.{lent};
-ghost use Rattle.open.specs.Steps.{Running, Ran};
-ghost use Rattle.open.specs.Writing.{Writes};
-use crate::steps;
+ghost use Rattle.open.specs.Rounds.{RoundInput, RoundResult};
+ghost use Rattle.open.specs.Writing.{openingWords, WriteInput};
+use residue::Residue;
 
 // From level i + 1 to level i; the new weight.
 fn round(
     depth: u32,
     i: u32,
-    w: u32,
+    w: Residue,
     g: &[u32],
     t: &[u32],
     t2: &[u32],
@@ -24,9 +19,9 @@ fn round(
     r: &[u32],
     opening: &mut [u32],
     work: &mut [u32],
-) -> u32
-    requires { ⌜ Running depth i w (now g) (now t) (now t2) (now z) (now r) (length (now opening)) (now work) ⌝ }
-    ensures { λ v. ⌜ Ran depth i w (now (g .entry)) (now (t .entry)) (now (t2 .entry)) (now (z .entry)) (now (r .entry)) (now (opening .entry)) (now (work .entry)) v (now (opening .exit)) (now (work .exit)) ⌝ }
+) -> Residue
+    requires { ⌜ RoundInput depth i w (now g) (now t) (now t2) (now z) (now r) (length (now opening)) (now work) ⌝ }
+    ensures { λ v. ⌜ RoundResult depth i w (now (g .entry)) (now (t .entry)) (now (t2 .entry)) (now (z .entry)) (now (r .entry)) (now (opening .entry)) (now (work .entry)) v (now (opening .exit)) (now (work .exit)) ⌝ }
 {
     steps::give_round(depth, i, w, z, opening, work);
     let v = steps::take_challenge(i, w, z, r, work);
@@ -34,7 +29,7 @@ fn round(
     v
 }
 
-// All rounds of the message in the front of work. Only v is missing then, the first word of work.
+// All rounds of the message in the front of work: of the opening only v is missing then, which is the first word of work.
 pub fn rounds(
     depth: u32,
     g: &[u32],
@@ -45,10 +40,10 @@ pub fn rounds(
     opening: &mut [u32],
     work: &mut [u32],
 )
-    requires { ⌜ Writes depth (now g) (now t) (now t2) (take (2 ^ depth) (now work)) (now z) (now r) (length (now opening)) (length (now work)) ⌝ }
-    ensures { λ _. ⌜ set (now (opening .exit)) (finalAt depth) (getD (now (work .exit)) 0 0) ≡ toWords 𝔽₁ (written F 0 (lent (now (g .entry)) (now (t .entry)) (now (t2 .entry))) (elements 𝔽₁ (take (2 ^ depth) (now (work .entry)))) (elements 𝔽₁ (now (z .entry))) (elements 𝔽₁ (now (r .entry)))) ⌝ }
+    requires { ⌜ WriteInput depth (now g) (now t) (now t2) (take (2 ^ depth) (now work)) (now z) (now r) (length (now opening)) (length (now work)) ⌝ }
+    ensures { λ _. ⌜ set (now (opening .exit)) (finalAt depth) (getD (now (work .exit)) 0 0) ≡ openingWords (now (g .entry)) (now (t .entry)) (now (t2 .entry)) (take (2 ^ depth) (now (work .entry))) (now (z .entry)) (now (r .entry)) ⌝ }
 {
-    let mut w = 1;
+    let mut w = Residue::ONE;
     let mut i = depth;
     while i > 0 {
         i -= 1;

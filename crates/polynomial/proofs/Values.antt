@@ -2,28 +2,26 @@
 use mathlib.Core.Path.{_≡_, sym, ap, ap₂, _∙_}
 use mathlib.Core.Bool.{_&&_}
 use mathlib.Core.List.{List, [], _∷_, _++_}
-use Prim.Native.Nat.{ℕ, suc, _+_, _-_, _/_, _^_, _<_}
-use native.Mathlib.Nat.{two-pow-succ}
+use Prim.Native.Nat.{ℕ, suc, _-_, _/_, _^_, _<_}
 use native.Mathlib.Omega.{arith}
 use lib.Dec.{eqb}
-use lib.ListN.{length, take, drop, getD, length-take, length-drop}
+use lib.ListN.{length, take, drop, getD}
 use lib.Seq.{take-all, take-suc, getD-take, getD-drop}
 use borrow.Author.Tests.{eqb-true}
 use Rattle.algebra.specs.Tests.{and-both}
 use Rattle.algebra.specs.Words.{𝔽₁}
-use Rattle.algebra.specs.WordLists.{Low, low-take, low-drop, elements, elements-take, elements-drop, elements-append, length-elements, getD-elements}
+use Rattle.algebra.specs.WordLists.{elements, elements-take, elements-drop, elements-append, length-elements, getD-elements}
 use Rattle.job.specs.Outcome.{done}
 use Rattle.job.specs.OutcomeLaws.{require-done, held}
 use Rattle.job.specs.Limits.{depthOk}
 use Rattle.multilinear.specs.Polynomial.{poly, form-nil, poly-top}
-use Rattle.residue.specs.Residues.{P, K, el, word, _⊞_, _⊠_}
-use Rattle.residue.specs.Scans.{allBelow, all-below}
+use Rattle.residue.specs.Residues.{K, el, word, _⊞_, _⊠_}
+use Rattle.residue.specs.Scans.{allBelow}
+use Rattle.residue.specs.ScanLaws.{all-below}
 use Rattle.polynomial.specs.Evaluation.{Evaluates, evaluateLengths, judgeEvaluating}
+use Rattle.polynomial.specs.EvaluationLaws.{lower, half-is, length-lower, rest, left, right}
 
--- the variables below the top one, and that one
-abbrev pub lower : List ℕ → List ℕ
-lower z = take (length z - 1) z
-
+-- the top variable
 abbrev pub top : List ℕ → ℕ
 top z = getD z (length z - 1) 0
 
@@ -35,37 +33,6 @@ one-word m [] 𝓔 e =
 one-word m (x ∷ z) 𝓔 e = absurd (omega arith)
 
 module _ (m z : List ℕ) (𝓔 : Evaluates m z) (lo : 0 < length z) where
-  twice : length m ≡ 2 ^ (length z - 1) + 2 ^ (length z - 1)
-  twice = let q : length z ≡ suc (length z - 1) = omega arith in 𝓔 .size ∙ ap (λ k. 2 ^ k) q ∙ two-pow-succ (length z - 1)
-
-  half-is : length m / 2 ≡ 2 ^ (length z - 1)
-  half-is = omega (arith, twice)
-
-  pub length-lower : length (lower z) ≡ length z - 1
-  length-lower = length-take (length z - 1) z ∙ omega arith
-
-  lower-low : Low P (lower z)
-  lower-low = low-take (length z - 1) (𝓔 .point)
-
-  rest : take (length m - length m / 2) (drop (length m / 2) m) ≡ drop (length m / 2) m
-  rest = take-all (length m - length m / 2) (drop (length m / 2) m) (omega (arith, length-drop (length m / 2) m))
-
-  pub left : Evaluates (take (length m / 2) m) (lower z)
-  left =
-      record {
-        size = length-take (length m / 2) m ∙ omega (arith, half-is, twice) ∙ half-is ∙ ap (λ k. 2 ^ k) (sym length-lower);
-        message = low-take (length m / 2) (𝓔 .message);
-        point = lower-low;
-      }
-
-  pub right : Evaluates (take (length m - length m / 2) (drop (length m / 2) m)) (lower z)
-  right =
-      record {
-        size = ap length rest ∙ length-drop (length m / 2) m ∙ omega (arith, half-is, twice) ∙ half-is ∙ ap (λ k. 2 ^ k) (sym length-lower);
-        message = low-take (length m - length m / 2) (low-drop (length m / 2) (𝓔 .message));
-        point = lower-low;
-      }
-
   last : lower z ++ (top z ∷ []) ≡ z
   last =
       let q : suc (length z - 1) ≡ length z = omega arith in
@@ -78,11 +45,11 @@ module _ (m z : List ℕ) (𝓔 : Evaluates m z) (lo : 0 < length z) where
   joined l r v el-l el-r e =
       let y = elements 𝔽₁ (lower z) in
       let x = el (top z) in
-      let size : length m / 2 ≡ 2 ^ length y = half-is ∙ ap (λ k. 2 ^ k) (sym (length-elements 𝔽₁ (lower z) ∙ length-lower)) in
+      let size : length m / 2 ≡ 2 ^ length y = half-is m z 𝓔 lo ∙ ap (λ k. 2 ^ k) (sym (length-elements 𝔽₁ (lower z) ∙ length-lower m z 𝓔 lo)) in
       let a : el l ≡ poly K (take (2 ^ length y) (elements 𝔽₁ m)) y =
       ap el el-l ∙ 𝔽₁ .words .el-val _ ∙ ap (λ w. poly K w y) (elements-take 𝔽₁ (length m / 2) m ∙ ap (λ k. take k (elements 𝔽₁ m)) size) in
       let b : el r ≡ poly K (drop (2 ^ length y) (elements 𝔽₁ m)) y =
-      ap el el-r ∙ 𝔽₁ .words .el-val _ ∙ ap (λ w. poly K w y) (ap (elements 𝔽₁) rest ∙ elements-drop 𝔽₁ (length m / 2) m ∙ ap (λ k. drop k (elements 𝔽₁ m)) size) in
+      ap el el-r ∙ 𝔽₁ .words .el-val _ ∙ ap (λ w. poly K w y) (ap (elements 𝔽₁) (rest m z 𝓔 lo) ∙ elements-drop 𝔽₁ (length m / 2) m ∙ ap (λ k. drop k (elements 𝔽₁ m)) size) in
       e ∙ ap word (ap₂ (λ s t. s ⊞ x ⊠ t) a b ∙ sym (poly-top K (elements 𝔽₁ m) y x) ∙ ap (poly K (elements 𝔽₁ m)) (sym (elements-append 𝔽₁ (lower z) (top z ∷ [])) ∙ ap (elements 𝔽₁) last))
 
   -- two words are the values of the halves
@@ -93,12 +60,12 @@ module _ (m z : List ℕ) (𝓔 : Evaluates m z) (lo : 0 < length z) where
   pair e v p =
       let n = pair-size e in
       let half : length m / 2 ≡ 1 = omega (arith, n) in
-      let none : length (lower z) ≡ 0 = length-lower ∙ omega arith in
+      let none : length (lower z) ≡ 0 = length-lower m z 𝓔 lo ∙ omega arith in
       let first : getD (take (length m / 2) m) 0 0 ≡ getD m 0 0 = getD-take (length m / 2) m 0 0 (omega (arith, half)) in
       let second : getD (take (length m - length m / 2) (drop (length m / 2) m)) 0 0 ≡ getD m 1 0 =
-      ap (λ l. getD l 0 0) rest ∙ getD-drop (length m / 2) m 0 0 ∙ ap (λ k. getD m k 0) (omega (arith, half)) in
+      ap (λ l. getD l 0 0) (rest m z 𝓔 lo) ∙ getD-drop (length m / 2) m 0 0 ∙ ap (λ k. getD m k 0) (omega (arith, half)) in
       let last-is : top z ≡ getD z 0 0 = ap (λ k. getD z k 0) (omega arith) in
-      joined (getD m 0 0) (getD m 1 0) v (sym first ∙ one-word _ (lower z) left none .1) (sym second ∙ one-word _ (lower z) right none .1)
+      joined (getD m 0 0) (getD m 1 0) v (sym first ∙ one-word _ (lower z) (left m z 𝓔 lo) none .1) (sym second ∙ one-word _ (lower z) (right m z 𝓔 lo) none .1)
       (p ∙ ap (λ x. word (el (getD m 0 0) ⊞ el x ⊠ el (getD m 1 0))) (sym last-is))
 
 -- the job's tests have passed

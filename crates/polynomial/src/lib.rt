@@ -1,6 +1,7 @@
 // The value of the multilinear polynomial whose coefficients a message holds.
 ghost use mathlib.Core.Path.{_≡_};
 ghost use mathlib.Core.Bool.{_&&_};
+ghost use lib.ListN.{length};
 ghost use Rattle.algebra.specs.Words.{𝔽₁};
 ghost use Rattle.algebra.specs.WordLists.{elements};
 ghost use Rattle.job.specs.Outcome.{outcome};
@@ -11,32 +12,42 @@ ghost use Rattle.residue.specs.Scans.{allBelow};
 ghost use Rattle.polynomial.specs.Evaluation.{Evaluates, evaluateLengths, judgeEvaluating, evaluation, evaluationOutcome};
 use job::Answer;
 use job::Refusal;
-use residue::entry;
+use residue::Residue;
 use residue::scan;
+
+pub mod eq;
 
 pub enum Evaluation {
     Value(u32),
     Refused(Refusal),
 }
 
+// The line through two words at 0 and their sum at 1, at the first variable.
+fn pair(m: &[u32], z: &[u32]) -> Residue
+    requires { ⌜ Evaluates (now m) (now z) × (length (now z) ≡ 1) ⌝ }
+    ensures { λ v. ⌜ v .0 ≡ word (poly K (elements 𝔽₁ (now (m .entry))) (elements 𝔽₁ (now (z .entry)))) ⌝ }
+{
+    Residue::new(m[0]).plus_product(Residue::new(z[0]), Residue::new(m[1]))
+}
+
 // By the top variable: the value of the left half plus that variable times the value of the right half. Two words are their own halves' values:
 // without that case there would be twice as many calls.
-pub fn value(m: &[u32], z: &[u32]) -> u32
+pub fn value(m: &[u32], z: &[u32]) -> Residue
     requires { ⌜ Evaluates (now m) (now z) ⌝ }
-    ensures { λ v. ⌜ v ≡ word (poly K (elements 𝔽₁ (now (m .entry))) (elements 𝔽₁ (now (z .entry)))) ⌝ }
+    ensures { λ v. ⌜ v .0 ≡ word (poly K (elements 𝔽₁ (now (m .entry))) (elements 𝔽₁ (now (z .entry)))) ⌝ }
 {
     let d = z.len();
     if d == 0 {
-        return m[0];
+        return Residue::new(m[0]);
     }
     if d == 1 {
-        return entry::plus_product(m[0], z[0], m[1]);
+        return pair(m, z);
     }
     let top = d - 1;
     let half = m.len() / 2;
     let l = value(&m[..half], &z[..top]);
     let r = value(&m[half..], &z[..top]);
-    entry::plus_product(l, z[top], r)
+    l.plus_product(Residue::new(z[top]), r)
 }
 
 // A depth that is not legal has no lengths.
@@ -78,7 +89,7 @@ pub fn evaluate(depth: u32, message: &[u32], point: &[u32]) -> Evaluation
 {
     let answer = judge(depth, message, point);
     match answer {
-        Answer::Done => Evaluation::Value(value(message, point)),
+        Answer::Done => Evaluation::Value(value(message, point).word()),
         Answer::Refused(r) => Evaluation::Refused(r),
     }
 }

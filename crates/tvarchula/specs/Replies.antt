@@ -10,7 +10,7 @@ use Rattle.foldable.specs.Code.{encode}
 use Rattle.job.specs.Outcome.{Outcome, refused, done, outcome, kept, _⨾_}
 use Rattle.job.specs.declared.Answer.{Answer}
 use Rattle.residue.specs.Residues.{F}
-use Rattle.code.specs.Lent.{lent}
+use Rattle.parameters.specs.Lent.{lent}
 use Rattle.code.specs.Encoding.{judgeEncoding}
 use Rattle.decode.specs.Decoding.{Decoded}
 use Rattle.fold.specs.Job.{judgeFolding, foldWords}

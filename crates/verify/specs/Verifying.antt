@@ -14,12 +14,11 @@ use Rattle.job.specs.Outcome.{Outcome, done, require, _⨾_}
 use Rattle.job.specs.Limits.{blockSize}
 use Rattle.residue.specs.Residues.{P, F, el}
 use Rattle.residue.specs.Scans.{allBelow}
-use Rattle.code.specs.Lent.{lent}
-use Rattle.code.specs.Parameters.{limits, rowLengths, rowWords, legalRow}
+use Rattle.parameters.specs.Lent.{lent}
+use Rattle.parameters.specs.Parameters.{rowLengths, rowWords, judgeRow}
 
--- the most queries
-abbrev pub most : ℕ
-most = 256
+abbrev pub maxQueries : ℕ
+maxQueries = 256
 
 -- of the lengths of g, T, T', block, z, r and opening, at depth d and rate c
 unfoldable pub openedLengths : ℕ → ℕ → ℕ → ℕ → ℕ → ℕ → ℕ → ℕ → ℕ → Bool
@@ -32,14 +31,13 @@ openedWords g t t' w z y r o = rowWords g t t' && (allBelow w && (allBelow z && 
 -- at depth 0 no query; above, from 1 to the most, each a place of the block below the top one
 unfoldable pub queriesOk : ℕ → ℕ → List ℕ → Bool
 queriesOk zero c us = eqb (length us) 0
-queriesOk (suc i) c us = leb 1 (length us) && (leb (length us) most && all (λ u. ltb u (blockSize c i)) us)
+queriesOk (suc i) c us = leb 1 (length us) && (leb (length us) maxQueries && all (λ u. ltb u (blockSize c i)) us)
 
 -- the refusals, in their order
 unfoldable pub judgeVerifying : (d c : ℕ) (g t t' w z : List ℕ) (y : ℕ) (r us o : List ℕ) → Outcome (Unit {0})
 judgeVerifying d c g t t' w z y r us o =
-    limits d c
-    ⨾ require (openedLengths d c (length g) (length t) (length t') (length w) (length z) (length r) (length o)) 3
-    ⨾ require (openedWords g t t' w z y r o) 4 ⨾ legalRow g t t' ⨾ require (queriesOk d c us) 7
+    judgeRow d c g t t' (openedLengths d c (length g) (length t) (length t') (length w) (length z) (length r) (length o)) (openedWords g t t' w z y r o)
+    ⨾ require (queriesOk d c us) 7
 
 -- a refusal, or the first check that fails, or none
 unfoldable pub verification : (d c : ℕ) (g t t' w z : List ℕ) (y : ℕ) (r us o : List ℕ) → Outcome (Option Check)

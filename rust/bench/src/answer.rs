@@ -1,7 +1,6 @@
 //! What a job answers, and the code that it is lent.
 
-/// `tv_answer`: the number and the places that it names, else zeros.
-#[repr(C)]
+/// The number, and the places that it names, else zeros.
 #[derive(Clone, Copy, PartialEq, Eq, Debug)]
 pub struct Answer {
     /// 0 is done or accepted, 1 to 9 a refusal, 20 to 23 a failed check.

@@ -19,4 +19,4 @@ pub use call::{call, Call, Job};
 pub use jobs::{Jobs, Outputs, Plain};
 pub use lent::{Buffers, Inputs};
 pub use linked::Library;
-pub use sizes::{Sizes, DEEPEST, MOST_QUERIES};
+pub use sizes::{Sizes, MAX_DEPTH, MAX_QUERIES};

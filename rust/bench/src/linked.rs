@@ -7,104 +7,75 @@
 use crate::answer::{Answer, Code};
 use crate::jobs::{Jobs, Outputs};
 use crate::plain::{Folding, Opened};
-
-type Read = *const u32;
-type Write = *mut u32;
-type Len = usize;
-
-#[rustfmt::skip]
-unsafe extern "C" {
-    fn tv_table_to_coefficients(
-        clearances: *const i32, clearances_len: Len, message: Write, message_len: Len,
-    ) -> Answer;
-    fn tv_coefficients_to_table(
-        message: Read, message_len: Len, clearances: *mut i32, clearances_len: Len,
-        work: Write, work_len: Len,
-    ) -> Answer;
-    fn tv_evaluate(
-        depth: u32, message: Read, message_len: Len, z: Read, z_len: Len, value: *mut u32,
-    ) -> Answer;
-    fn tv_encode(
-        depth: u32, rate: u32, g: Read, g_len: Len, t: Read, t_len: Len, t2: Read, t2_len: Len,
-        message: Read, message_len: Len, block: Write, block_len: Len,
-    ) -> Answer;
-    fn tv_decode(
-        depth: u32, rate: u32, g: Read, g_len: Len, t: Read, t_len: Len, t2: Read, t2_len: Len,
-        block: Read, block_len: Len, message: Write, message_len: Len, work: Write, work_len: Len,
-    ) -> Answer;
-    fn tv_fold(
-        level: u32, rate: u32, t: Read, t_len: Len, t2: Read, t2_len: Len,
-        block: Read, block_len: Len, challenge: u32, folded: Write, folded_len: Len,
-    ) -> Answer;
-    fn tv_write_opening(
-        depth: u32, rate: u32, g: Read, g_len: Len, t: Read, t_len: Len, t2: Read, t2_len: Len,
-        message: Read, message_len: Len, z: Read, z_len: Len, r: Read, r_len: Len,
-        opening: Write, opening_len: Len, work: Write, work_len: Len, value: *mut u32,
-    ) -> Answer;
-    fn tv_verify_opening(
-        depth: u32, rate: u32, g: Read, g_len: Len, t: Read, t_len: Len, t2: Read, t2_len: Len,
-        block: Read, block_len: Len, z: Read, z_len: Len, y: u32, r: Read, r_len: Len,
-        queries: Read, queries_len: Len, opening: Read, opening_len: Len,
-    ) -> Answer;
-}
+use tvarchula_sys::*;
 
 /// The static library.
 #[derive(Clone, Copy, Debug)]
 pub struct Library;
 
+fn answer(raw: tv_answer) -> Answer {
+    Answer {
+        number: raw.number,
+        first: raw.first,
+        second: raw.second,
+    }
+}
+
 // SAFETY of all calls below: see the head of this file.
 #[rustfmt::skip]
 impl Jobs for Library {
     fn table_to_coefficients(clearances: &[i32], message: &mut [u32]) -> Answer {
-        unsafe {
+        answer(unsafe {
             tv_table_to_coefficients(
                 clearances.as_ptr(), clearances.len(), message.as_mut_ptr(), message.len(),
             )
-        }
+        })
     }
 
     fn coefficients_to_table(message: &[u32], table: &mut [i32], work: &mut [u32]) -> Answer {
-        unsafe {
+        answer(unsafe {
             tv_coefficients_to_table(
                 message.as_ptr(), message.len(), table.as_mut_ptr(), table.len(),
                 work.as_mut_ptr(), work.len(),
             )
-        }
+        })
     }
 
     fn evaluate(depth: u32, message: &[u32], z: &[u32], value: &mut u32) -> Answer {
-        unsafe { tv_evaluate(depth, message.as_ptr(), message.len(), z.as_ptr(), z.len(), value) }
+        answer(unsafe {
+            tv_evaluate(depth, message.as_ptr(), message.len(), z.as_ptr(), z.len(), value)
+        })
     }
 
     fn encode(code: &Code<'_>, message: &[u32], block: &mut [u32]) -> Answer {
         let Code { depth, rate, g, t, t2 } = *code;
-        unsafe {
+        answer(unsafe {
             tv_encode(
                 depth, rate, g.as_ptr(), g.len(), t.as_ptr(), t.len(), t2.as_ptr(), t2.len(),
                 message.as_ptr(), message.len(), block.as_mut_ptr(), block.len(),
             )
-        }
+        })
     }
 
     fn decode(code: &Code<'_>, block: &[u32], message: &mut [u32], work: &mut [u32]) -> Answer {
         let Code { depth, rate, g, t, t2 } = *code;
-        unsafe {
+        answer(unsafe {
             tv_decode(
                 depth, rate, g.as_ptr(), g.len(), t.as_ptr(), t.len(), t2.as_ptr(), t2.len(),
                 block.as_ptr(), block.len(), message.as_mut_ptr(), message.len(),
                 work.as_mut_ptr(), work.len(),
             )
-        }
+        })
     }
 
     fn fold(lent: &Folding<'_>, folded: &mut [u32]) -> Answer {
         let Folding { level, rate, t, t2, block, challenge } = *lent;
-        unsafe {
+        answer(unsafe {
             tv_fold(
                 level, rate, t.as_ptr(), t.len(), t2.as_ptr(), t2.len(),
                 block.as_ptr(), block.len(), challenge, folded.as_mut_ptr(), folded.len(),
             )
-        }
+        })
     }
 
     fn write_opening(
@@ -112,24 +83,24 @@ impl Jobs for Library {
     ) -> Answer {
         let Code { depth, rate, g, t, t2 } = *code;
         let Outputs { result, work, value } = out;
-        unsafe {
+        answer(unsafe {
             tv_write_opening(
                 depth, rate, g.as_ptr(), g.len(), t.as_ptr(), t.len(), t2.as_ptr(), t2.len(),
                 message.as_ptr(), message.len(), z.as_ptr(), z.len(), r.as_ptr(), r.len(),
                 result.as_mut_ptr(), result.len(), work.as_mut_ptr(), work.len(), value,
             )
-        }
+        })
     }
 
     fn verify_opening(code: &Code<'_>, lent: &Opened<'_>) -> Answer {
         let Code { depth, rate, g, t, t2 } = *code;
         let Opened { block, z, y, r, queries, opening } = *lent;
-        unsafe {
+        answer(unsafe {
             tv_verify_opening(
                 depth, rate, g.as_ptr(), g.len(), t.as_ptr(), t.len(), t2.as_ptr(), t2.len(),
                 block.as_ptr(), block.len(), z.as_ptr(), z.len(), y, r.as_ptr(), r.len(),
                 queries.as_ptr(), queries.len(), opening.as_ptr(), opening.len(),
             )
-        }
+        })
     }
 }

@@ -7,7 +7,7 @@ mod report;
 
 use report::measure::Plan;
 use std::process::ExitCode;
-use tvarchula_bench::DEEPEST;
+use tvarchula_bench::MAX_DEPTH;
 
 const USAGE: &str = "usage: tvarchula-bench [--quick] [--depths 10,14,16]";
 
@@ -37,7 +37,7 @@ fn options(mut arguments: impl Iterator<Item = String>) -> Option<(Plan, Vec<usi
 }
 
 fn parsed(list: &str) -> Option<Vec<usize>> {
-    let legal = 1..=DEEPEST as usize;
+    let legal = 1..=MAX_DEPTH as usize;
     let depth = |text: &str| text.parse().ok().filter(|depth| legal.contains(depth));
     list.split(',').map(depth).collect()
 }

@@ -3,7 +3,7 @@
 use crate::call::{call, Job};
 use crate::jobs::Plain;
 use crate::lent::{Buffers, Inputs};
-use crate::plain::{FARTHEST, P};
+use crate::plain::{MAX_CLEARANCE, P};
 use crate::sizes::Sizes;
 
 /// A small generator (splitmix64).
@@ -27,7 +27,7 @@ impl Rng {
     }
 
     fn clearance(&mut self) -> i32 {
-        self.word() as i32 - FARTHEST
+        self.word() as i32 - MAX_CLEARANCE
     }
 }
 

@@ -3,9 +3,9 @@
 use std::ops::Range;
 
 /// The largest depth.
-pub const DEEPEST: u32 = 16;
+pub const MAX_DEPTH: u32 = 16;
 /// The longest query list.
-pub const MOST_QUERIES: usize = 256;
+pub const MAX_QUERIES: usize = 256;
 /// Bytes of a word.
 pub const WORD: usize = size_of::<u32>();
 

@@ -13,7 +13,7 @@ pub fn line(x: Residue, w: Residue, x2: Residue, w2: Residue, a: Residue) -> Res
     w + slope * (a - x)
 }
 
-/// The fold of a block by `a`: at j the line through (T[j], w[j]) and (T'[j], w[j+n]), at a.
+/// The fold of a block by `a`: at `j` the line through `(T[j], w[j])` and `(T'[j], w[j+n])`, at `a`.
 pub fn fold_block(t: &[Residue], t2: &[Residue], block: &[Residue], a: Residue) -> Vec<Residue> {
     let (low, high) = block.split_at(t.len());
     let place = |j: usize| line(t[j], low[j], t2[j], high[j], a);

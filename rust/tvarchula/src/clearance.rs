@@ -1,12 +1,17 @@
 //! Clearances: reading one, and tables of them.
 
-use std::fmt;
+#[cfg(feature = "alloc")]
+use alloc::{vec, vec::Vec};
+use core::fmt;
+
+use tvarchula_sys::{tv_reading, TV_FREE, TV_OVERLAP};
 
 use crate::raw;
-use crate::refusal::{done, unknown, Refusal};
+use crate::refusal::{done, Refusal};
 
 /// What a residue says as a clearance, in micrometres.
 #[derive(Clone, Copy, PartialEq, Eq, Hash, Debug)]
+#[non_exhaustive]
 pub enum Reading {
     /// Free, with this distance.
     Free(u32),
@@ -22,6 +27,7 @@ impl Reading {
     /// assert_eq!(Reading::Free(1250).micrometres(), 1250);
     /// assert_eq!(Reading::Overlap(300).micrometres(), -300);
     /// ```
+    #[must_use]
     pub const fn micrometres(self) -> i64 {
         match self {
             Reading::Free(distance) => distance as i64,
@@ -39,7 +45,11 @@ impl fmt::Display for Reading {
     }
 }
 
-/// Reads a word as a clearance. Refuses with [`Refusal::Word`] only.
+/// Reads a word as a clearance.
+///
+/// # Errors
+///
+/// [`Refusal::Word`] for a word that is no residue.
 ///
 /// ```
 /// use tvarchula::{read_clearance, Reading, Refusal, MODULUS};
@@ -48,12 +58,16 @@ impl fmt::Display for Reading {
 /// assert_eq!(read_clearance(MODULUS), Err(Refusal::Word));
 /// ```
 pub fn read_clearance(word: u32) -> Result<Reading, Refusal> {
-    let raw = raw::read_clearance(word);
+    reading_of(raw::read_clearance(word))
+}
+
+/// A kind that is not known here is no reading.
+fn reading_of(raw: tv_reading) -> Result<Reading, Refusal> {
     done(raw.number)?;
     match raw.kind {
-        1 => Ok(Reading::Free(raw.amount)),
-        2 => Ok(Reading::Overlap(raw.amount)),
-        other => unknown(other),
+        TV_FREE => Ok(Reading::Free(raw.amount)),
+        TV_OVERLAP => Ok(Reading::Overlap(raw.amount)),
+        kind => Err(Refusal::Unknown { number: 0, kind }),
     }
 }
 
@@ -61,6 +75,10 @@ pub fn read_clearance(word: u32) -> Result<Reading, Refusal> {
 /// is the value where variable i is bit i of b.
 ///
 /// `message` has as many words as the table has entries, a power of two.
+///
+/// # Errors
+///
+/// [`Refusal::Depth`], [`Refusal::Length`], [`Refusal::Clearance`].
 ///
 /// ```
 /// use tvarchula::table_to_coefficients;
@@ -74,6 +92,11 @@ pub fn table_to_coefficients(clearances: &[i32], message: &mut [u32]) -> Result<
 }
 
 /// [`table_to_coefficients`] into a new vector.
+///
+/// # Errors
+///
+/// As [`table_to_coefficients`].
+#[cfg(feature = "alloc")]
 pub fn table_to_coefficients_vec(clearances: &[i32]) -> Result<Vec<u32>, Refusal> {
     let mut message = vec![0; clearances.len()];
     table_to_coefficients(clearances, &mut message)?;
@@ -81,6 +104,10 @@ pub fn table_to_coefficients_vec(clearances: &[i32]) -> Result<Vec<u32>, Refusal
 }
 
 /// The table back from the coefficients. `clearances` and `work` are as long as the message.
+///
+/// # Errors
+///
+/// [`Refusal::Depth`], [`Refusal::Length`], [`Refusal::Word`].
 ///
 /// ```
 /// use tvarchula::coefficients_to_table;
@@ -98,9 +125,34 @@ pub fn coefficients_to_table(
 }
 
 /// [`coefficients_to_table`] into a new vector.
+///
+/// # Errors
+///
+/// As [`coefficients_to_table`].
+#[cfg(feature = "alloc")]
 pub fn coefficients_to_table_vec(message: &[u32]) -> Result<Vec<i32>, Refusal> {
     let mut clearances = vec![0; message.len()];
     let mut work = vec![0; message.len()];
     coefficients_to_table(message, &mut clearances, &mut work)?;
     Ok(clearances)
+}
+
+#[cfg(test)]
+mod tests {
+    use super::*;
+
+    #[test]
+    fn an_unknown_kind_is_no_reading() {
+        let read = |kind| {
+            reading_of(tv_reading {
+                number: 0,
+                kind,
+                amount: 0,
+            })
+        };
+        assert_eq!(read(1), Ok(Reading::Free(0)));
+        for kind in [0, 3, u32::MAX] {
+            assert_eq!(read(kind), Err(Refusal::Unknown { number: 0, kind }));
+        }
+    }
 }

@@ -1,16 +1,22 @@
 //! The polynomial and its code: evaluation, encoding, decoding, folding.
 
+#[cfg(feature = "alloc")]
+use alloc::{vec, vec::Vec};
+
 use crate::raw;
 use crate::refusal::{done, Refusal};
+#[cfg(feature = "alloc")]
 use crate::sizes::{block_len, message_len};
 
 /// The code that planner and cell agree on. Whoever draws its row and diagonals keeps them; they
 /// are lent to each call.
 #[derive(Clone, Copy, PartialEq, Eq, Debug)]
+#[non_exhaustive]
 pub struct Code<'a> {
-    /// The number of variables, 0 to 16. A message has 2^depth words.
+    /// The number of variables, 0 to [`MAX_DEPTH`](crate::MAX_DEPTH). A message has 2^depth words.
     pub depth: u32,
-    /// The words of a block for each word of a message, 2 to 16.
+    /// The words of a block for each word of a message, [`MIN_RATE`](crate::MIN_RATE) to
+    /// [`MAX_RATE`](crate::MAX_RATE).
     pub rate: u32,
     /// The base row: `rate` words, none of them 0.
     pub g: &'a [u32],
@@ -20,8 +26,32 @@ pub struct Code<'a> {
     pub t2: &'a [u32],
 }
 
+impl<'a> Code<'a> {
+    /// A code. Nothing is judged here: the jobs do that.
+    ///
+    /// ```
+    /// use tvarchula::Code;
+    /// let code = Code::new(1, 2, &[1, 1], &[2, 3], &[2147483645, 2147483644]);
+    /// assert_eq!((code.depth, code.rate), (1, 2));
+    /// ```
+    #[must_use]
+    pub const fn new(depth: u32, rate: u32, g: &'a [u32], t: &'a [u32], t2: &'a [u32]) -> Code<'a> {
+        Code {
+            depth,
+            rate,
+            g,
+            t,
+            t2,
+        }
+    }
+}
+
 /// The value at `z` of the polynomial whose coefficients the message holds: word b multiplies those
 /// variables whose bit in b is set, and word i of `z` is variable i.
+///
+/// # Errors
+///
+/// [`Refusal::Depth`], [`Refusal::Length`], [`Refusal::Word`].
 ///
 /// ```
 /// use tvarchula::evaluate;
@@ -33,11 +63,17 @@ pub fn evaluate(depth: u32, message: &[u32], z: &[u32]) -> Result<u32, Refusal> 
     Ok(value)
 }
 
-/// Writes the codeword of a message, [`block_len`]`(depth, rate)` words: the commitment.
+/// Writes the codeword of a message, [`block_len`](crate::block_len)`(depth, rate)` words: the
+/// commitment.
+///
+/// # Errors
+///
+/// [`Refusal::Depth`], [`Refusal::Rate`], [`Refusal::Length`], [`Refusal::Word`],
+/// [`Refusal::BaseRow`], [`Refusal::Diagonals`].
 ///
 /// ```
 /// use tvarchula::{encode, Code};
-/// let code = Code { depth: 1, rate: 2, g: &[1, 1], t: &[2, 3], t2: &[2147483645, 2147483644] };
+/// let code = Code::new(1, 2, &[1, 1], &[2, 3], &[2147483645, 2147483644]);
 /// let mut block = [0; 4];
 /// encode(&code, &[5, 7], &mut block)?;
 /// assert_eq!(block, [19, 26, 2147483638, 2147483631]);
@@ -48,18 +84,26 @@ pub fn encode(code: &Code<'_>, message: &[u32], block: &mut [u32]) -> Result<(),
 }
 
 /// [`encode`] into a new vector.
+///
+/// # Errors
+///
+/// As [`encode`].
+#[cfg(feature = "alloc")]
 pub fn encode_vec(code: &Code<'_>, message: &[u32]) -> Result<Vec<u32>, Refusal> {
     let mut block = vec![0; block_len(code.depth, code.rate)];
     encode(code, message, &mut block)?;
     Ok(block)
 }
 
-/// Writes the message of a codeword, and refuses any other block with [`Refusal::NoCodeword`].
-/// `work` is as long as the block.
+/// Writes the message of a codeword. `work` is as long as the block.
+///
+/// # Errors
+///
+/// Those of [`encode`], and [`Refusal::NoCodeword`] for every other block.
 ///
 /// ```
 /// use tvarchula::{decode, Code, Refusal};
-/// let code = Code { depth: 1, rate: 2, g: &[1, 1], t: &[2, 3], t2: &[2147483645, 2147483644] };
+/// let code = Code::new(1, 2, &[1, 1], &[2, 3], &[2147483645, 2147483644]);
 /// let (mut message, mut work) = ([0; 2], [0; 4]);
 /// decode(&code, &[19, 26, 2147483638, 2147483631], &mut message, &mut work)?;
 /// assert_eq!(message, [5, 7]);
@@ -79,6 +123,11 @@ pub fn decode(
 }
 
 /// [`decode`] into a new vector.
+///
+/// # Errors
+///
+/// As [`decode`].
+#[cfg(feature = "alloc")]
 pub fn decode_vec(code: &Code<'_>, block: &[u32]) -> Result<Vec<u32>, Refusal> {
     let mut message = vec![0; message_len(code.depth)];
     let mut work = vec![0; block_len(code.depth, code.rate)];
@@ -89,7 +138,12 @@ pub fn decode_vec(code: &Code<'_>, block: &[u32]) -> Result<Vec<u32>, Refusal> {
 /// Folds a block of a level to the one below. At place j that is the value at the challenge of the
 /// straight line through the block's words j and j + n, which stand at `t[j]` and `t2[j]`.
 ///
-/// `level` is the upper one, 1 to 16; `t`, `t2` and `folded` have the n words of the level below.
+/// `level` is the upper one, from 1; `t`, `t2` and `folded` have the n words of the level below.
+///
+/// # Errors
+///
+/// [`Refusal::Depth`], [`Refusal::Rate`], [`Refusal::Length`], [`Refusal::Word`],
+/// [`Refusal::Diagonals`].
 ///
 /// ```
 /// use tvarchula::fold;
@@ -112,6 +166,11 @@ pub fn fold(
 }
 
 /// [`fold`] into a new vector.
+///
+/// # Errors
+///
+/// As [`fold`].
+#[cfg(feature = "alloc")]
 pub fn fold_vec(
     level: u32,
     rate: u32,

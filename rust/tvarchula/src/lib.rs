@@ -4,36 +4,37 @@
 //! A planner commits to a table of clearances by sending one block of words. Later it opens single
 //! values, and the cell verifies each against that block.
 //!
-//! ```
+#![cfg_attr(feature = "alloc", doc = "```")]
+#![cfg_attr(not(feature = "alloc"), doc = "```ignore")]
 //! use tvarchula::*;
 //!
 //! // Both sides know the code: depth 1, rate 2, a base row and two diagonals.
-//! let code = Code { depth: 1, rate: 2, g: &[1, 1], t: &[2, 3], t2: &[2147483645, 2147483644] };
+//! let code = Code::new(1, 2, &[1, 1], &[2, 3], &[2147483645, 2147483644]);
 //!
 //! // The planner commits to a table of two clearances.
 //! let message = table_to_coefficients_vec(&[1250, -300])?;
 //! let commitment = encode_vec(&code, &message)?;
 //!
-//! // It opens entry 1, at the corner [1], under the challenge and for the places that the cell drew.
-//! let (z, r, queries) = ([1], [77], [0, 1]);
-//! let (opening, value) = write_opening_vec(&code, &message, &z, &r)?;
+//! // It opens entry 1, at the corner [1], under the challenge that the cell drew.
+//! let (z, r) = ([1], [77]);
+//! let (opening, y) = write_opening_vec(&code, &message, &Question { z: &z, r: &r })?;
 //!
-//! // The cell verifies the claimed value and reads it.
-//! let verdict = verify_opening(&code, &commitment, &z, value, &r, &queries, &opening)?;
-//! assert_eq!(verdict, Verdict::Accepted);
-//! assert_eq!(read_clearance(value)?, Reading::Overlap(300));
+//! // The cell draws places, verifies the claimed value and reads it.
+//! let claim = Claim { z: &z, y, r: &r, queries: &[0, 1] };
+//! verify_opening(&code, &commitment, &claim, &opening)?;
+//! assert_eq!(read_clearance(y)?, Reading::Overlap(300));
 //!
-//! // Any other value is rejected.
-//! let verdict = verify_opening(&code, &commitment, &z, 1250, &r, &queries, &opening)?;
-//! assert_eq!(verdict, Verdict::Rejected(Failure::Sum(1)));
-//! # Ok::<(), Refusal>(())
+//! // Any other value is an error.
+//! let forged = Claim { y: 1250, ..claim };
+//! assert!(verify_opening(&code, &commitment, &forged, &opening).is_err());
+//! # Ok::<(), Box<dyn std::error::Error>>(())
 //! ```
 //!
 //! # Buffers
 //!
 //! Every job reads slices and writes into buffers that it is lent; neither the library nor these
 //! functions allocate. The forms that end in `_vec` allocate the result, and the work buffer where
-//! there is one.
+//! there is one; they are in the default feature `alloc`. The crate does not use `std`.
 //!
 //! After a refusal every result is as it was. Work buffers hold zeros after success and after
 //! [`Refusal::NoCodeword`], and are as they were after any other refusal; what they hold before a
@@ -41,11 +42,17 @@
 //!
 //! # Panics
 //!
-//! No input makes a function panic. They panic when the linked archive is of another version and
-//! answers a number that this crate does not know.
+//! No input makes a function panic. An answer that this crate does not know, from an archive of
+//! another version, is [`Refusal::Unknown`].
 
+#![no_std]
 #![deny(missing_docs)]
 #![deny(unsafe_code)]
+
+#[cfg(feature = "alloc")]
+extern crate alloc;
+#[cfg(test)]
+extern crate std;
 
 mod clearance;
 mod code;
@@ -56,20 +63,18 @@ mod refusal;
 mod sizes;
 mod verdict;
 
-pub use clearance::{
-    coefficients_to_table, coefficients_to_table_vec, read_clearance, table_to_coefficients,
-    table_to_coefficients_vec, Reading,
-};
-pub use code::{decode, decode_vec, encode, encode_vec, evaluate, fold, fold_vec, Code};
-pub use opening::{verify_opening, write_opening, write_opening_vec};
+pub use clearance::{coefficients_to_table, read_clearance, table_to_coefficients, Reading};
+#[cfg(feature = "alloc")]
+pub use clearance::{coefficients_to_table_vec, table_to_coefficients_vec};
+pub use code::{decode, encode, evaluate, fold, Code};
+#[cfg(feature = "alloc")]
+pub use code::{decode_vec, encode_vec, fold_vec};
+#[cfg(feature = "alloc")]
+pub use opening::write_opening_vec;
+pub use opening::{verdict, verify_opening, write_opening, Claim, Question};
 pub use refusal::Refusal;
 pub use sizes::{
-    block_len, diagonals_len, message_len, opening_len, DEEPEST, FARTHEST, LEAST_RATE,
-    LONGEST_TABLE, MODULUS, MOST_QUERIES, MOST_RATE,
+    block_len, diagonals_len, message_len, opening_len, MAX_CLEARANCE, MAX_DEPTH, MAX_QUERIES,
+    MAX_RATE, MAX_TABLE_LEN, MIN_RATE, MODULUS,
 };
-pub use verdict::{Failure, Verdict};
-
-/// The Rust program of the calling document, run by `cargo test`.
-#[cfg(doctest)]
-#[doc = include_str!("../../../docs/CALLING.md")]
-struct Calling;
+pub use verdict::{Failure, Verdict, VerifyError};

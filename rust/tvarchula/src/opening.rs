@@ -1,21 +1,58 @@
 //! Openings: writing one and verifying one.
 
+#[cfg(feature = "alloc")]
+use alloc::{vec, vec::Vec};
+
 use crate::code::Code;
 use crate::raw;
 use crate::refusal::{done, Refusal};
+#[cfg(feature = "alloc")]
 use crate::sizes::{message_len, opening_len};
-use crate::verdict::{verdict, Verdict};
+use crate::verdict::{verdict_of, Verdict, VerifyError};
 
-/// Writes an opening of the message at `z` under the challenges `r`, and returns the value at `z`.
+/// What an opening answers. `z` and `r` have a word for each variable, word i for variable i.
+#[derive(Clone, Copy, PartialEq, Eq, Debug)]
+pub struct Question<'a> {
+    /// The point at which the polynomial is asked for. Entry b of a table stands at the corner where
+    /// variable i is bit i of b.
+    pub z: &'a [u32],
+    /// The challenges. The planner could not foresee them when it committed.
+    pub r: &'a [u32],
+}
+
+/// What an opening has to show: that the committed polynomial has the value `y` at `z`.
 ///
-/// `z` and `r` have a word for each variable. `opening` has [`opening_len`] words, and `work` twice
-/// [`message_len`].
+/// `z` and `r` have a word for each variable, word i for variable i.
+#[derive(Clone, Copy, PartialEq, Eq, Debug)]
+pub struct Claim<'a> {
+    /// The point at which the polynomial is asked for.
+    pub z: &'a [u32],
+    /// The value claimed there.
+    pub y: u32,
+    /// The challenges under which the opening was written.
+    pub r: &'a [u32],
+    /// The places at which folds are checked: 1 to [`MAX_QUERIES`](crate::MAX_QUERIES) places below
+    /// [`block_len`](crate::block_len)`(depth - 1, rate)`, repeated or not; at depth 0 none. The
+    /// planner could not foresee them when it wrote the opening.
+    pub queries: &'a [u32],
+}
+
+/// Writes an opening of the message, and returns the value at `z`.
+///
+/// `opening` has [`opening_len`](crate::opening_len) words, and `work` twice
+/// [`message_len`](crate::message_len).
+///
+/// # Errors
+///
+/// [`Refusal::Depth`], [`Refusal::Rate`], [`Refusal::Length`], [`Refusal::Word`],
+/// [`Refusal::BaseRow`], [`Refusal::Diagonals`].
 ///
 /// ```
-/// use tvarchula::{write_opening, Code};
-/// let code = Code { depth: 1, rate: 2, g: &[1, 1], t: &[2, 3], t2: &[2147483645, 2147483644] };
+/// use tvarchula::{write_opening, Code, Question};
+/// let code = Code::new(1, 2, &[1, 1], &[2, 3], &[2147483645, 2147483644]);
+/// let question = Question { z: &[3], r: &[4] };
 /// let (mut opening, mut work) = ([0; 6], [0; 4]);
-/// let value = write_opening(&code, &[5, 7], &[3], &[4], &mut opening, &mut work)?;
+/// let value = write_opening(&code, &[5, 7], &question, &mut opening, &mut work)?;
 /// assert_eq!(value, 26);
 /// assert_eq!(opening, [2147483637, 36, 152, 33, 33, 33]);
 /// # Ok::<(), tvarchula::Refusal>(())
@@ -23,52 +60,117 @@ use crate::verdict::{verdict, Verdict};
 pub fn write_opening(
     code: &Code<'_>,
     message: &[u32],
-    z: &[u32],
-    r: &[u32],
+    question: &Question<'_>,
     opening: &mut [u32],
     work: &mut [u32],
 ) -> Result<u32, Refusal> {
     let mut value = 0;
-    done(raw::write_opening(code, message, z, r, opening, work, &mut value).number)?;
+    done(raw::write_opening(code, message, question, opening, work, &mut value).number)?;
     Ok(value)
 }
 
 /// [`write_opening`] into a new vector: the opening and the value.
+///
+/// # Errors
+///
+/// As [`write_opening`].
+#[cfg(feature = "alloc")]
 pub fn write_opening_vec(
     code: &Code<'_>,
     message: &[u32],
-    z: &[u32],
-    r: &[u32],
+    question: &Question<'_>,
 ) -> Result<(Vec<u32>, u32), Refusal> {
     let mut opening = vec![0; opening_len(code.depth, code.rate)];
     let mut work = vec![0; 2 * message_len(code.depth)];
-    let value = write_opening(code, message, z, r, &mut opening, &mut work)?;
+    let value = write_opening(code, message, question, &mut opening, &mut work)?;
     Ok((opening, value))
 }
 
-/// Whether the opening shows that the committed polynomial has the value `y` at `z`.
+/// Accepts an opening only when every check of it holds: then it shows the claim.
 ///
-/// `block` is the commitment, [`block_len`](crate::block_len)`(depth, rate)` words. `queries` are 1
-/// to 256 places below `block_len(depth - 1, rate)`, and none at depth 0. An opening that is well
-/// formed and wrong is no refusal: it is [`Verdict::Rejected`].
+/// `block` is the commitment, [`block_len`](crate::block_len)`(depth, rate)` words.
+///
+/// # Errors
+///
+/// [`VerifyError::Rejected`] with the first check that fails, when all is well formed.
+/// [`VerifyError::Refused`] with [`Refusal::Depth`], [`Refusal::Rate`], [`Refusal::Length`],
+/// [`Refusal::Word`], [`Refusal::BaseRow`], [`Refusal::Diagonals`] or [`Refusal::Queries`].
 ///
 /// ```
-/// use tvarchula::{verify_opening, Code, Failure, Verdict};
-/// let code = Code { depth: 1, rate: 2, g: &[1, 1], t: &[2, 3], t2: &[2147483645, 2147483644] };
+/// use tvarchula::{verify_opening, Claim, Code, Failure, VerifyError};
+/// let code = Code::new(1, 2, &[1, 1], &[2, 3], &[2147483645, 2147483644]);
 /// let block = [19, 26, 2147483638, 2147483631];
 /// let opening = [2147483637, 36, 152, 33, 33, 33];
-/// let verify = |y| verify_opening(&code, &block, &[3], y, &[4], &[0, 1], &opening);
-/// assert_eq!(verify(26), Ok(Verdict::Accepted));
-/// assert_eq!(verify(27), Ok(Verdict::Rejected(Failure::Sum(1))));
+/// let claim = Claim { z: &[3], y: 26, r: &[4], queries: &[0, 1] };
+/// assert_eq!(verify_opening(&code, &block, &claim, &opening), Ok(()));
+///
+/// let forged = Claim { y: 27, ..claim };
+/// let rejected = Err(VerifyError::Rejected(Failure::Sum(1)));
+/// assert_eq!(verify_opening(&code, &block, &forged, &opening), rejected);
 /// ```
+///
+/// Nobody can overlook the answer:
+///
+/// ```compile_fail
+/// #![deny(unused_must_use)]
+/// # use tvarchula::{verify_opening, Claim, Code};
+/// # fn cell(code: &Code<'_>, block: &[u32], claim: &Claim<'_>, opening: &[u32]) {
+/// verify_opening(code, block, claim, opening);
+/// # }
+/// ```
+///
+/// ```
+/// #![deny(unused_must_use)]
+/// # use tvarchula::{verify_opening, Claim, Code, VerifyError};
+/// # fn cell(code: &Code<'_>, block: &[u32], claim: &Claim<'_>, opening: &[u32])
+/// #     -> Result<(), VerifyError> {
+/// verify_opening(code, block, claim, opening)?;
+/// # Ok(())
+/// # }
+/// ```
+#[must_use = "only `Ok` accepts the opening"]
 pub fn verify_opening(
     code: &Code<'_>,
     block: &[u32],
-    z: &[u32],
-    y: u32,
-    r: &[u32],
-    queries: &[u32],
+    claim: &Claim<'_>,
+    opening: &[u32],
+) -> Result<(), VerifyError> {
+    Ok(verdict(code, block, claim, opening)?.into_result()?)
+}
+
+/// [`verify_opening`] with refusals and verdicts apart, for callers that treat them differently. An
+/// opening that is rejected is `Ok` here: use [`verify_opening`] where only acceptance matters.
+///
+/// # Errors
+///
+/// The refusals of [`verify_opening`].
+///
+/// ```
+/// use tvarchula::{verdict, Claim, Code, Failure, Verdict};
+/// let code = Code::new(1, 2, &[1, 1], &[2, 3], &[2147483645, 2147483644]);
+/// let block = [19, 26, 2147483638, 2147483631];
+/// let opening = [2147483637, 36, 152, 33, 33, 33];
+/// let claim = Claim { z: &[3], y: 27, r: &[4], queries: &[0, 1] };
+/// let verdict = verdict(&code, &block, &claim, &opening);
+/// assert_eq!(verdict, Ok(Verdict::Rejected(Failure::Sum(1))));
+/// ```
+///
+/// A verdict that nobody looks at is a warning, after `?` too:
+///
+/// ```compile_fail
+/// #![deny(unused_must_use)]
+/// # use tvarchula::{verdict, Claim, Code, Refusal};
+/// # fn cell(code: &Code<'_>, block: &[u32], claim: &Claim<'_>, opening: &[u32])
+/// #     -> Result<(), Refusal> {
+/// verdict(code, block, claim, opening)?;
+/// # Ok(())
+/// # }
+/// ```
+pub fn verdict(
+    code: &Code<'_>,
+    block: &[u32],
+    claim: &Claim<'_>,
     opening: &[u32],
 ) -> Result<Verdict, Refusal> {
-    verdict(raw::verify_opening(code, block, z, y, r, queries, opening))
+    verdict_of(raw::verify_opening(code, block, claim, opening))
 }

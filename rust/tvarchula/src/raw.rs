@@ -1,4 +1,4 @@
-//! The nine functions of the static library, and all the unsafe code of this crate.
+//! Calls of the C functions, and all the unsafe code of this crate.
 //!
 //! Why every call below is sound:
 //! - The library answers on any input: no depth, rate, length or word makes it fail, so a call has
@@ -12,76 +12,18 @@
 //!
 //! The comments at the calls name what is particular to each.
 
+use tvarchula_sys::*;
+
 use crate::code::Code;
+use crate::opening::{Claim, Question};
 
-/// `tv_answer`.
-#[repr(C)]
-#[derive(Clone, Copy)]
-pub struct Answer {
-    pub number: u32,
-    pub first: u32,
-    pub second: u32,
-}
-
-/// `tv_reading`.
-#[repr(C)]
-#[derive(Clone, Copy)]
-pub struct Reading {
-    pub number: u32,
-    pub kind: u32,
-    pub amount: u32,
-}
-
-/// A slice that is read, in the two parameters that C has for it.
-type Read = *const u32;
-/// A slice that is written.
-type Write = *mut u32;
-type Len = usize;
-
-#[rustfmt::skip]
-unsafe extern "C" {
-    fn tv_read_clearance(word: u32) -> Reading;
-    fn tv_table_to_coefficients(
-        clearances: *const i32, clearances_len: Len, message: Write, message_len: Len,
-    ) -> Answer;
-    fn tv_coefficients_to_table(
-        message: Read, message_len: Len, clearances: *mut i32, clearances_len: Len,
-        work: Write, work_len: Len,
-    ) -> Answer;
-    fn tv_evaluate(
-        depth: u32, message: Read, message_len: Len, z: Read, z_len: Len, value: *mut u32,
-    ) -> Answer;
-    fn tv_encode(
-        depth: u32, rate: u32, g: Read, g_len: Len, t: Read, t_len: Len, t2: Read, t2_len: Len,
-        message: Read, message_len: Len, block: Write, block_len: Len,
-    ) -> Answer;
-    fn tv_decode(
-        depth: u32, rate: u32, g: Read, g_len: Len, t: Read, t_len: Len, t2: Read, t2_len: Len,
-        block: Read, block_len: Len, message: Write, message_len: Len, work: Write, work_len: Len,
-    ) -> Answer;
-    fn tv_fold(
-        level: u32, rate: u32, t: Read, t_len: Len, t2: Read, t2_len: Len,
-        block: Read, block_len: Len, challenge: u32, folded: Write, folded_len: Len,
-    ) -> Answer;
-    fn tv_write_opening(
-        depth: u32, rate: u32, g: Read, g_len: Len, t: Read, t_len: Len, t2: Read, t2_len: Len,
-        message: Read, message_len: Len, z: Read, z_len: Len, r: Read, r_len: Len,
-        opening: Write, opening_len: Len, work: Write, work_len: Len, value: *mut u32,
-    ) -> Answer;
-    fn tv_verify_opening(
-        depth: u32, rate: u32, g: Read, g_len: Len, t: Read, t_len: Len, t2: Read, t2_len: Len,
-        block: Read, block_len: Len, z: Read, z_len: Len, y: u32, r: Read, r_len: Len,
-        queries: Read, queries_len: Len, opening: Read, opening_len: Len,
-    ) -> Answer;
-}
-
-pub fn read_clearance(word: u32) -> Reading {
+pub fn read_clearance(word: u32) -> tv_reading {
     // SAFETY: no memory is lent.
     unsafe { tv_read_clearance(word) }
 }
 
 #[rustfmt::skip]
-pub fn table_to_coefficients(clearances: &[i32], message: &mut [u32]) -> Answer {
+pub fn table_to_coefficients(clearances: &[i32], message: &mut [u32]) -> tv_answer {
     // SAFETY: see above; `message` is borrowed alone.
     unsafe {
         tv_table_to_coefficients(
@@ -91,7 +33,7 @@ pub fn table_to_coefficients(clearances: &[i32], message: &mut [u32]) -> Answer 
 }
 
 #[rustfmt::skip]
-pub fn coefficients_to_table(message: &[u32], clearances: &mut [i32], work: &mut [u32]) -> Answer {
+pub fn coefficients_to_table(message: &[u32], clearances: &mut [i32], work: &mut [u32]) -> tv_answer {
     // SAFETY: see above; `clearances` and `work` are borrowed alone.
     unsafe {
         tv_coefficients_to_table(
@@ -102,13 +44,13 @@ pub fn coefficients_to_table(message: &[u32], clearances: &mut [i32], work: &mut
 }
 
 #[rustfmt::skip]
-pub fn evaluate(depth: u32, message: &[u32], z: &[u32], value: &mut u32) -> Answer {
+pub fn evaluate(depth: u32, message: &[u32], z: &[u32], value: &mut u32) -> tv_answer {
     // SAFETY: see above; `value` is one word borrowed alone.
     unsafe { tv_evaluate(depth, message.as_ptr(), message.len(), z.as_ptr(), z.len(), value) }
 }
 
 #[rustfmt::skip]
-pub fn encode(code: &Code<'_>, message: &[u32], block: &mut [u32]) -> Answer {
+pub fn encode(code: &Code<'_>, message: &[u32], block: &mut [u32]) -> tv_answer {
     let Code { depth, rate, g, t, t2 } = *code;
     // SAFETY: see above; `block` is borrowed alone.
     unsafe {
@@ -120,7 +62,7 @@ pub fn encode(code: &Code<'_>, message: &[u32], block: &mut [u32]) -> Answer {
 }
 
 #[rustfmt::skip]
-pub fn decode(code: &Code<'_>, block: &[u32], message: &mut [u32], work: &mut [u32]) -> Answer {
+pub fn decode(code: &Code<'_>, block: &[u32], message: &mut [u32], work: &mut [u32]) -> tv_answer {
     let Code { depth, rate, g, t, t2 } = *code;
     // SAFETY: see above; `message` and `work` are borrowed alone.
     unsafe {
@@ -135,7 +77,7 @@ pub fn decode(code: &Code<'_>, block: &[u32], message: &mut [u32], work: &mut [u
 #[rustfmt::skip]
 pub fn fold(
     level: u32, rate: u32, t: &[u32], t2: &[u32], block: &[u32], challenge: u32, folded: &mut [u32],
-) -> Answer {
+) -> tv_answer {
     // SAFETY: see above; `folded` is borrowed alone.
     unsafe {
         tv_fold(
@@ -147,10 +89,11 @@ pub fn fold(
 
 #[rustfmt::skip]
 pub fn write_opening(
-    code: &Code<'_>, message: &[u32], z: &[u32], r: &[u32],
+    code: &Code<'_>, message: &[u32], question: &Question<'_>,
     opening: &mut [u32], work: &mut [u32], value: &mut u32,
-) -> Answer {
+) -> tv_answer {
     let Code { depth, rate, g, t, t2 } = *code;
+    let Question { z, r } = *question;
     // SAFETY: see above; `opening`, `work` and the word `value` are borrowed alone.
     unsafe {
         tv_write_opening(
@@ -163,9 +106,10 @@ pub fn write_opening(
 
 #[rustfmt::skip]
 pub fn verify_opening(
-    code: &Code<'_>, block: &[u32], z: &[u32], y: u32, r: &[u32], queries: &[u32], opening: &[u32],
-) -> Answer {
+    code: &Code<'_>, block: &[u32], claim: &Claim<'_>, opening: &[u32],
+) -> tv_answer {
     let Code { depth, rate, g, t, t2 } = *code;
+    let Claim { z, y, r, queries } = *claim;
     // SAFETY: see above; nothing is written.
     unsafe {
         tv_verify_opening(

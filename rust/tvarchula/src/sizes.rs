@@ -4,19 +4,19 @@
 //! at any length, so a buffer of that length is answered with the right refusal.
 
 /// The modulus p, 2^31 - 1. Every word that is read is below it.
-pub const MODULUS: u32 = 2_147_483_647;
+pub const MODULUS: u32 = tvarchula_sys::TV_MODULUS;
 /// The largest depth.
-pub const DEEPEST: u32 = 16;
+pub const MAX_DEPTH: u32 = tvarchula_sys::TV_MAX_DEPTH;
 /// The smallest rate.
-pub const LEAST_RATE: u32 = 2;
+pub const MIN_RATE: u32 = tvarchula_sys::TV_MIN_RATE;
 /// The largest rate.
-pub const MOST_RATE: u32 = 16;
+pub const MAX_RATE: u32 = tvarchula_sys::TV_MAX_RATE;
 /// The longest query list.
-pub const MOST_QUERIES: usize = 256;
-/// The longest table.
-pub const LONGEST_TABLE: usize = 65_536;
+pub const MAX_QUERIES: usize = tvarchula_sys::TV_MAX_QUERIES as usize;
+/// The longest table, 2^[`MAX_DEPTH`] entries.
+pub const MAX_TABLE_LEN: usize = tvarchula_sys::TV_MAX_TABLE_LEN as usize;
 /// The largest clearance, in micrometres; the smallest is its negative.
-pub const FARTHEST: i32 = 1_073_741_823;
+pub const MAX_CLEARANCE: i32 = tvarchula_sys::TV_MAX_CLEARANCE;
 
 /// Words of a message: 2^depth.
 ///
@@ -25,8 +25,9 @@ pub const FARTHEST: i32 = 1_073_741_823;
 /// assert_eq!(message_len(3), 8);
 /// assert_eq!(message_len(17), 0); // no legal depth
 /// ```
+#[must_use]
 pub const fn message_len(depth: u32) -> usize {
-    if depth <= DEEPEST {
+    if depth <= MAX_DEPTH {
         1 << depth
     } else {
         0
@@ -41,8 +42,9 @@ pub const fn message_len(depth: u32) -> usize {
 /// assert_eq!(block_len(16, 16), 1_048_576);
 /// assert_eq!(block_len(1, 17), 0); // no legal rate
 /// ```
+#[must_use]
 pub const fn block_len(level: u32, rate: u32) -> usize {
-    if LEAST_RATE <= rate && rate <= MOST_RATE {
+    if MIN_RATE <= rate && rate <= MAX_RATE {
         rate as usize * message_len(level)
     } else {
         0
@@ -60,6 +62,7 @@ pub const fn block_len(level: u32, rate: u32) -> usize {
 /// assert_eq!(level_1.len(), block_len(1, 2));
 /// assert_eq!(diagonals_len(0, 2), 0);
 /// ```
+#[must_use]
 pub const fn diagonals_len(depth: u32, rate: u32) -> usize {
     block_len(depth, rate).saturating_sub(rate as usize)
 }
@@ -76,6 +79,7 @@ pub const fn diagonals_len(depth: u32, rate: u32) -> usize {
 /// assert_eq!(opening_len(0, 2), 1);
 /// assert_eq!(opening_len(17, 2), 0); // no legal depth
 /// ```
+#[must_use]
 pub const fn opening_len(depth: u32, rate: u32) -> usize {
     if block_len(depth, rate) == 0 {
         return 0;

@@ -1,14 +1,16 @@
 //! What a verifier answers.
 
-use std::error::Error;
-use std::fmt;
+use core::error::Error;
+use core::fmt;
 
-use crate::raw::Answer;
-use crate::refusal::{done, unknown, Refusal};
+use tvarchula_sys::{self as sys, tv_answer};
+
+use crate::refusal::{done, Refusal};
 
 /// The verdict on an opening that is well formed.
 #[derive(Clone, Copy, PartialEq, Eq, Hash, Debug)]
 #[must_use = "nothing is known of the claimed value unless the opening is accepted"]
+#[non_exhaustive]
 pub enum Verdict {
     /// Every check holds.
     Accepted,
@@ -18,6 +20,7 @@ pub enum Verdict {
 
 /// A check that fails, in the order in which they are made.
 #[derive(Clone, Copy, PartialEq, Eq, Hash, Debug)]
+#[non_exhaustive]
 pub enum Failure {
     /// 20: the sum check of round i, from depth down to 1.
     Sum(u32),
@@ -34,21 +37,37 @@ pub enum Failure {
     },
 }
 
+/// Why an opening is not accepted.
+#[derive(Clone, Copy, PartialEq, Eq, Hash, Debug)]
+#[non_exhaustive]
+pub enum VerifyError {
+    /// Something lent is not well formed: nothing was checked.
+    Refused(Refusal),
+    /// All is well formed, and this check is the first that fails: the claimed value is not shown.
+    Rejected(Failure),
+}
+
 impl Verdict {
     /// Whether every check holds.
+    #[must_use]
     pub const fn is_accepted(self) -> bool {
         matches!(self, Verdict::Accepted)
     }
 
     /// The number that C sees: 0 when accepted, else the failure's.
+    #[must_use]
     pub const fn number(self) -> u32 {
         match self {
-            Verdict::Accepted => 0,
+            Verdict::Accepted => sys::TV_ACCEPTED,
             Verdict::Rejected(failure) => failure.number(),
         }
     }
 
-    /// The verdict as a result, for callers that want to leave with `?`.
+    /// The verdict as a result.
+    ///
+    /// # Errors
+    ///
+    /// The check that fails, when the opening is rejected.
     ///
     /// ```
     /// use tvarchula::{Failure, Verdict};
@@ -66,13 +85,37 @@ impl Verdict {
 
 impl Failure {
     /// The number that C sees, 20 to 23.
+    #[must_use]
     pub const fn number(self) -> u32 {
         match self {
-            Failure::Sum(_) => 20,
-            Failure::Final => 21,
-            Failure::Base(_) => 22,
-            Failure::Fold { .. } => 23,
+            Failure::Sum(_) => sys::TV_FAILED_SUM,
+            Failure::Final => sys::TV_FAILED_FINAL,
+            Failure::Base(_) => sys::TV_FAILED_BASE,
+            Failure::Fold { .. } => sys::TV_FAILED_FOLD,
         }
+    }
+}
+
+impl VerifyError {
+    /// The number that C sees.
+    #[must_use]
+    pub const fn number(self) -> u32 {
+        match self {
+            VerifyError::Refused(refusal) => refusal.number(),
+            VerifyError::Rejected(failure) => failure.number(),
+        }
+    }
+}
+
+impl From<Refusal> for VerifyError {
+    fn from(refusal: Refusal) -> VerifyError {
+        VerifyError::Refused(refusal)
+    }
+}
+
+impl From<Failure> for VerifyError {
+    fn from(failure: Failure) -> VerifyError {
+        VerifyError::Rejected(failure)
     }
 }
 
@@ -98,20 +141,49 @@ impl fmt::Display for Failure {
     }
 }
 
+impl fmt::Display for VerifyError {
+    fn fmt(&self, f: &mut fmt::Formatter<'_>) -> fmt::Result {
+        match self {
+            VerifyError::Refused(refusal) => write!(f, "refused: {refusal}"),
+            VerifyError::Rejected(failure) => write!(f, "rejected: {failure}"),
+        }
+    }
+}
+
 impl Error for Failure {}
 
-/// The verdict from what the verifier answers.
-pub(crate) fn verdict(answer: Answer) -> Result<Verdict, Refusal> {
-    let failure = match answer.number {
-        0..=9 => return done(answer.number).map(|()| Verdict::Accepted),
-        20 => Failure::Sum(answer.first),
-        21 => Failure::Final,
-        22 => Failure::Base(answer.first),
-        23 => Failure::Fold {
+impl Error for VerifyError {}
+
+/// The verdict from what the verifier answers. Only 0 accepts; a number that is neither a failure
+/// nor a refusal known here is refused as unknown.
+pub(crate) fn verdict_of(answer: tv_answer) -> Result<Verdict, Refusal> {
+    Ok(Verdict::Rejected(match answer.number {
+        sys::TV_FAILED_SUM => Failure::Sum(answer.first),
+        sys::TV_FAILED_FINAL => Failure::Final,
+        sys::TV_FAILED_BASE => Failure::Base(answer.first),
+        sys::TV_FAILED_FOLD => Failure::Fold {
             query: answer.first,
             level: answer.second,
         },
-        other => unknown(other),
-    };
-    Ok(Verdict::Rejected(failure))
+        number => return done(number).map(|()| Verdict::Accepted),
+    }))
+}
+
+#[cfg(test)]
+mod tests {
+    use super::*;
+
+    #[test]
+    fn only_0_is_accepted() {
+        for number in (0..100).chain([u32::MAX]) {
+            let verdict = verdict_of(tv_answer {
+                number,
+                first: 1,
+                second: 2,
+            });
+            assert_eq!(verdict == Ok(Verdict::Accepted), number == 0);
+            let found = verdict.map_or_else(Refusal::number, Verdict::number);
+            assert_eq!(found, number);
+        }
+    }
 }

@@ -1,46 +1,48 @@
-//! The order's numbers to try, through the safe functions: every answer, and every buffer after it.
+//! The order's numbers to try, through the forms that write into lent buffers: every answer, and
+//! every buffer after it.
 
 use tvarchula::*;
 
 const P: u32 = MODULUS;
-const CODE: Code<'static> = Code {
-    depth: 1,
-    rate: 2,
-    g: &[1, 1],
-    t: &[2, 3],
-    t2: &[2_147_483_645, 2_147_483_644],
-};
-const DEPTH_0: Code<'static> = Code {
-    depth: 0,
-    t: &[],
-    t2: &[],
-    ..CODE
-};
+const CODE: Code<'static> = Code::new(1, 2, &[1, 1], &[2, 3], &[2_147_483_645, 2_147_483_644]);
+const DEPTH_0: Code<'static> = Code::new(0, 2, &[1, 1], &[], &[]);
 const BLOCK: [u32; 4] = [19, 26, 2_147_483_638, 2_147_483_631];
 const OPENING: [u32; 6] = [2_147_483_637, 36, 152, 33, 33, 33];
 
+/// What a job left in buffers that held 77 everywhere.
+type Left<const N: usize, const W: usize> = (Result<(), Refusal>, [u32; N], [u32; W]);
+
+fn to_coefficients<const N: usize>(table: [i32; N]) -> Left<N, 0> {
+    let mut message = [77; N];
+    (table_to_coefficients(&table, &mut message), message, [])
+}
+
 #[test]
 fn clearances_and_tables() {
-    assert_eq!(table_to_coefficients_vec(&[-1]), Ok(vec![2_147_483_646]));
-    let farthest = Reading::Overlap(1_073_741_823);
-    assert_eq!(read_clearance(1_073_741_824), Ok(farthest));
-    assert_eq!(read_clearance(0), Ok(Reading::Free(0)));
-    let table = coefficients_to_table_vec(&[1_073_741_824]);
-    assert_eq!(table, Ok(vec![-FARTHEST]));
-    let mut message = [77];
-    let refused = table_to_coefficients(&[FARTHEST + 1], &mut message);
-    assert_eq!((refused, message), (Err(Refusal::Clearance), [77]));
+    assert_eq!(to_coefficients([-1]), (Ok(()), [2_147_483_646], []));
+    let refused = (Err(Refusal::Clearance), [77], []);
+    assert_eq!(to_coefficients([MAX_CLEARANCE + 1]), refused);
+    assert_eq!(to_coefficients([-MAX_CLEARANCE - 1]), refused);
+    assert_eq!(to_coefficients([3, 5, 4, 10]), (Ok(()), [3, 2, 1, 4], []));
+    assert_eq!(to_coefficients([1, 2, 3]).0, Err(Refusal::Depth));
+    assert_eq!(to_coefficients([]).0, Err(Refusal::Depth));
+    let other_length = table_to_coefficients(&[1, 2], &mut [77; 3]);
+    assert_eq!(other_length, Err(Refusal::Length));
 
-    let message = table_to_coefficients_vec(&[3, 5, 4, 10]);
-    assert_eq!(message, Ok(vec![3, 2, 1, 4]));
+    let overlap = Reading::Overlap(1_073_741_823);
+    assert_eq!(read_clearance(1_073_741_824), Ok(overlap));
+    assert_eq!(read_clearance(0), Ok(Reading::Free(0)));
+    assert_eq!(read_clearance(P), Err(Refusal::Word));
+
     let (mut table, mut work) = ([77; 4], [77; 4]);
     let done = coefficients_to_table(&[3, 2, 1, 4], &mut table, &mut work);
     assert_eq!((done, table, work), (Ok(()), [3, 5, 4, 10], [0; 4]));
-    for wrong in [&[][..], &[1, 2, 3]] {
-        assert_eq!(table_to_coefficients_vec(wrong), Err(Refusal::Depth));
-    }
-    assert_eq!(coefficients_to_table_vec(&[1, 2, 3]), Err(Refusal::Depth));
-    assert_eq!(coefficients_to_table_vec(&[P]), Err(Refusal::Word));
+    let (mut table, mut work) = ([77], [77]);
+    let done = coefficients_to_table(&[1_073_741_824], &mut table, &mut work);
+    assert_eq!((done, table, work), (Ok(()), [-MAX_CLEARANCE], [0]));
+    let (mut table, mut work) = ([77], [77]);
+    let refused = coefficients_to_table(&[P], &mut table, &mut work);
+    assert_eq!((refused, table, work), (Err(Refusal::Word), [77], [77]));
 }
 
 #[test]
@@ -52,58 +54,58 @@ fn evaluation() {
     assert_eq!(evaluate(17, &[5, 7], &[3]), Err(Refusal::Depth));
 }
 
+fn encoded<const N: usize>(code: &Code<'_>, message: &[u32]) -> Left<N, 0> {
+    let mut block = [77; N];
+    (encode(code, message, &mut block), block, [])
+}
+
+fn decoded(block: [u32; 4]) -> Left<2, 4> {
+    let (mut message, mut work) = ([77; 2], [77; 4]);
+    let done = decode(&CODE, &block, &mut message, &mut work);
+    (done, message, work)
+}
+
+fn folded(level: u32) -> Left<2, 0> {
+    let mut folded = [77; 2];
+    let done = fold(level, 2, CODE.t, CODE.t2, &BLOCK, 4, &mut folded);
+    (done, folded, [])
+}
+
 #[test]
 fn code() {
-    assert_eq!(encode_vec(&CODE, &[5, 7]), Ok(BLOCK.to_vec()));
-    assert_eq!(encode_vec(&DEPTH_0, &[9]), Ok(vec![9, 9]));
-    assert_eq!(decode_vec(&CODE, &BLOCK), Ok(vec![5, 7]));
+    assert_eq!(encoded(&CODE, &[5, 7]), (Ok(()), BLOCK, []));
+    assert_eq!(encoded(&DEPTH_0, &[9]), (Ok(()), [9, 9], []));
+    assert_eq!(decoded(BLOCK), (Ok(()), [5, 7], [0; 4]));
     let damaged = [BLOCK[0], BLOCK[1], BLOCK[2], 2_147_483_632];
-    let (mut message, mut work) = ([77; 2], [77; 4]);
-    let refused = decode(&CODE, &damaged, &mut message, &mut work);
-    assert_eq!(refused, Err(Refusal::NoCodeword));
-    assert_eq!((message, work), ([77; 2], [0; 4]));
-    let folded = fold_vec(1, 2, CODE.t, CODE.t2, &BLOCK, 4);
-    assert_eq!(folded, Ok(vec![33, 33]));
+    let refused = (Err(Refusal::NoCodeword), [77; 2], [0; 4]);
+    assert_eq!(decoded(damaged), refused);
+    let no_residue = [BLOCK[0], BLOCK[1], BLOCK[2], P];
+    let refused = (Err(Refusal::Word), [77; 2], [77; 4]);
+    assert_eq!(decoded(no_residue), refused);
+    assert_eq!(folded(1), (Ok(()), [33, 33], []));
     for level in [0, 17, u32::MAX] {
-        let refused = fold_vec(level, 2, CODE.t, CODE.t2, &BLOCK, 4);
-        assert_eq!(refused, Err(Refusal::Depth));
+        assert_eq!(folded(level), (Err(Refusal::Depth), [77; 2], []));
     }
 }
 
 #[test]
 fn refusals() {
-    let refused = |code: Code<'_>| {
-        let mut block = [77; 4];
-        let result = encode(&code, &[5, 7], &mut block);
+    let refused = |change: fn(&mut Code<'_>)| {
+        let mut code = CODE;
+        change(&mut code);
+        let (result, block, []) = encoded::<4>(&code, &[5, 7]);
         assert_eq!(block, [77; 4]);
         result.unwrap_err()
     };
-    let zero_and_pair = Code {
-        g: &[1, 0],
-        t2: &[2_147_483_645, 3],
-        ..CODE
-    };
-    let pair = Code {
-        g: CODE.g,
-        ..zero_and_pair
-    };
-    let short = Code { g: &[1], ..CODE };
-    let large = Code { g: &[1, P], ..CODE };
-    assert_eq!(refused(Code { depth: 17, ..CODE }), Refusal::Depth);
-    assert_eq!(refused(Code { rate: 1, ..CODE }), Refusal::Rate);
-    assert_eq!(refused(Code { rate: 17, ..CODE }), Refusal::Rate);
-    assert_eq!(refused(short), Refusal::Length);
-    assert_eq!(refused(large), Refusal::Word);
-    assert_eq!(refused(zero_and_pair), Refusal::BaseRow);
+    assert_eq!(refused(|code| code.depth = 17), Refusal::Depth);
+    assert_eq!(refused(|code| code.rate = 1), Refusal::Rate);
+    assert_eq!(refused(|code| code.rate = 17), Refusal::Rate);
+    assert_eq!(refused(|code| code.g = &[1]), Refusal::Length);
+    assert_eq!(refused(|code| code.g = &[1, P]), Refusal::Word);
+    let pair = |code: &mut Code<'_>| code.t2 = &[2_147_483_645, 3];
     assert_eq!(refused(pair), Refusal::Diagonals);
-    // The forms with vectors find the same refusal where no length is legal.
-    for depth in [17, 64, u32::MAX] {
-        let code = Code { depth, ..CODE };
-        assert_eq!(encode_vec(&code, &[5, 7]), Err(Refusal::Depth));
-        assert_eq!(decode_vec(&code, &BLOCK), Err(Refusal::Depth));
-        let refused = write_opening_vec(&code, &[5, 7], &[3], &[4]);
-        assert_eq!(refused, Err(Refusal::Depth));
-    }
+    let zero_and_pair = |code: &mut Code<'_>| (code.g, code.t2) = (&[1, 0], &[5, 3]);
+    assert_eq!(refused(zero_and_pair), Refusal::BaseRow);
     for number in 1..=9 {
         let refusal = Refusal::from_number(number).unwrap();
         assert_eq!(refusal.number(), number);
@@ -112,104 +114,105 @@ fn refusals() {
     assert_eq!(Refusal::from_number(10), None);
 }
 
+/// An opening of 5 + 7 X at z under r, and the value.
+fn opened(z: u32, r: u32) -> ([u32; 6], u32) {
+    let (mut opening, mut work) = ([77; 6], [77; 4]);
+    let question = Question { z: &[z], r: &[r] };
+    let value = write_opening(&CODE, &[5, 7], &question, &mut opening, &mut work);
+    assert_eq!(work, [0; 4]);
+    (opening, value.unwrap())
+}
+
+/// The verdict on an opening of that polynomial at z under r.
+fn judged(z: u32, y: u32, r: u32, queries: &[u32], opening: &[u32]) -> Result<Verdict, Refusal> {
+    let claim = Claim {
+        z: &[z],
+        y,
+        r: &[r],
+        queries,
+    };
+    let verdict = verdict(&CODE, &BLOCK, &claim, opening);
+    let result = verify_opening(&CODE, &BLOCK, &claim, opening);
+    assert_eq!(result.is_ok(), verdict == Ok(Verdict::Accepted));
+    verdict
+}
+
 #[test]
 fn openings() {
-    let open = |z, r| write_opening_vec(&CODE, &[5, 7], &[z], &[r]).unwrap();
-    let verify = |z: u32, y: u32, r: u32, queries: &[u32], opening: &[u32]| {
-        verify_opening(&CODE, &BLOCK, &[z], y, &[r], queries, opening)
-    };
     let rejected = |failure| Ok(Verdict::Rejected(failure));
-    assert_eq!(open(3, 4), (OPENING.to_vec(), 26));
-    assert_eq!(verify(3, 26, 4, &[0, 1], &OPENING), Ok(Verdict::Accepted));
-    assert_eq!(
-        verify(3, 27, 4, &[0, 1], &OPENING),
-        rejected(Failure::Sum(1))
-    );
-    assert_eq!(verify(3, 26, 4, &[2], &OPENING), Err(Refusal::Queries));
+    assert_eq!(opened(3, 4), (OPENING, 26));
+    assert_eq!(judged(3, 26, 4, &[0, 1], &OPENING), Ok(Verdict::Accepted));
+    let sum = rejected(Failure::Sum(1));
+    assert_eq!(judged(3, 27, 4, &[0, 1], &OPENING), sum);
+    // The length of the query list and its words are judged by 7, not by 3 and 4.
+    for queries in [&[2][..], &[P], &[u32::MAX], &[], &[0; 257]] {
+        let refused = Err(Refusal::Queries);
+        assert_eq!(judged(3, 26, 4, queries, &OPENING), refused);
+    }
     let with = |place: usize, word| {
         let mut opening = OPENING;
         opening[place] = word;
-        opening
+        judged(3, 26, 4, &[0], &opening)
     };
-    assert_eq!(
-        verify(3, 26, 4, &[0], &with(3, 34)),
-        rejected(Failure::Final)
-    );
-    assert_eq!(
-        verify(3, 26, 4, &[0], &with(5, 34)),
-        rejected(Failure::Base(1))
-    );
+    assert_eq!(with(3, 34), rejected(Failure::Final));
+    assert_eq!(with(5, 34), rejected(Failure::Base(1)));
 
     // Here eq is 0: the final check says nothing about the value at r, the folds still decide.
-    let (mut opening, value) = open(0, 1);
-    assert_eq!(
-        (value, &opening[..]),
-        (5, &[5, 0, 2_147_483_628, 12, 12, 12][..])
-    );
-    assert_eq!(verify(0, 5, 1, &[0], &opening), Ok(Verdict::Accepted));
+    let (mut opening, value) = opened(0, 1);
+    assert_eq!((value, opening), (5, [5, 0, 2_147_483_628, 12, 12, 12]));
+    assert_eq!(judged(0, 5, 1, &[0], &opening), Ok(Verdict::Accepted));
     opening[3..].fill(13);
     let fold = Failure::Fold { query: 0, level: 0 };
-    assert_eq!(verify(0, 5, 1, &[0], &opening), rejected(fold));
+    assert_eq!(judged(0, 5, 1, &[0], &opening), rejected(fold));
+}
 
-    let at_0 = |y, queries: &[u32]| verify_opening(&DEPTH_0, &[9, 9], &[], y, &[], queries, &[9]);
-    assert_eq!(
-        write_opening_vec(&DEPTH_0, &[9], &[], &[]),
-        Ok((vec![9], 9))
-    );
-    assert_eq!(at_0(9, &[]), Ok(Verdict::Accepted));
-    assert_eq!(at_0(8, &[]), rejected(Failure::Final));
-    assert_eq!(at_0(9, &[0]), Err(Refusal::Queries));
+#[test]
+fn openings_at_depth_0() {
+    let judged = |y, queries: &[u32]| {
+        let claim = Claim {
+            z: &[],
+            y,
+            r: &[],
+            queries,
+        };
+        verdict(&DEPTH_0, &[9, 9], &claim, &[9])
+    };
+    let (mut opening, mut work) = ([77], [77; 2]);
+    let question = Question { z: &[], r: &[] };
+    let value = write_opening(&DEPTH_0, &[9], &question, &mut opening, &mut work);
+    assert_eq!((value, opening, work), (Ok(9), [9], [0; 2]));
+    assert_eq!(judged(9, &[]), Ok(Verdict::Accepted));
+    assert_eq!(judged(8, &[]), Ok(Verdict::Rejected(Failure::Final)));
+    assert_eq!(judged(9, &[0]), Err(Refusal::Queries));
 }
 
 /// At depth 2 the second query, 2, goes on at place 0 of level 1, where a word is wrong.
 #[test]
 fn query_and_level_of_a_wrong_fold() {
-    let code = Code {
-        depth: 2,
-        rate: 2,
-        g: &[1, 1],
-        t: &[2, 3, 4, 5, 6, 7],
-        t2: &[8, 9, 10, 11, 12, 13],
-    };
+    let (t, t2) = ([2, 3, 4, 5, 6, 7], [8, 9, 10, 11, 12, 13]);
+    let code = Code::new(2, 2, &[1, 1], &t, &t2);
     let message = [5, 7, 11, 13];
     let (z, r) = ([3, 4], [5, 6]);
-    let block = encode_vec(&code, &message).unwrap();
+    let (done, block, []) = encoded::<8>(&code, &message);
+    assert_eq!(done, Ok(()));
     assert_eq!(block, [167, 276, 751, 964, 389, 576, 1441, 1732]);
-    let (mut opening, value) = write_opening_vec(&code, &message, &z, &r).unwrap();
-    assert_eq!(value, 226);
+    let (mut opening, mut work) = ([77; 13], [77; 8]);
+    let question = Question { z: &z, r: &r };
+    let y = write_opening(&code, &message, &question, &mut opening, &mut work).unwrap();
+    assert_eq!(y, 226);
     opening[7] += 1; // place 0 of block 1
-    let verdict =
-        |queries: &[u32]| verify_opening(&code, &block, &z, value, &r, queries, &opening).unwrap();
-    let wrong = |query, level| Verdict::Rejected(Failure::Fold { query, level });
-    assert_eq!(verdict(&[3]), Verdict::Accepted);
-    assert_eq!(verdict(&[3, 2]), wrong(1, 0));
-    assert_eq!(verdict(&[3, 1, 0]), wrong(2, 1));
-    assert_eq!(verdict(&[0]).number(), 23);
-}
-
-#[test]
-fn largest_sizes() {
-    const DEPTH: u32 = 16;
-    const RATE: u32 = 16;
-    let t = vec![2; diagonals_len(DEPTH, RATE)];
-    let t2 = vec![3; diagonals_len(DEPTH, RATE)];
-    let g = [1; RATE as usize];
-    let code = Code {
-        depth: DEPTH,
-        rate: RATE,
-        g: &g,
-        t: &t,
-        t2: &t2,
+    let judged = |queries: &[u32]| {
+        let claim = Claim {
+            z: &z,
+            y,
+            r: &r,
+            queries,
+        };
+        verdict(&code, &block, &claim, &opening).unwrap()
     };
-    let message: Vec<u32> = (0..message_len(DEPTH) as u32).collect();
-    let block = encode_vec(&code, &message).unwrap();
-    let point = [7; DEPTH as usize];
-    let (opening, value) = write_opening_vec(&code, &message, &point, &point).unwrap();
-    assert_eq!(opening.len(), 1_048_609);
-    let queries: Vec<u32> = (0..256).collect();
-    let verdict = verify_opening(&code, &block, &point, value, &point, &queries, &opening);
-    assert_eq!(verdict, Ok(Verdict::Accepted));
-    let other = (value + 1) % MODULUS;
-    let verdict = verify_opening(&code, &block, &point, other, &point, &queries, &opening);
-    assert_eq!(verdict, Ok(Verdict::Rejected(Failure::Sum(16))));
+    let wrong = |query, level| Verdict::Rejected(Failure::Fold { query, level });
+    assert_eq!(judged(&[3]), Verdict::Accepted);
+    assert_eq!(judged(&[3, 2]), wrong(1, 0));
+    assert_eq!(judged(&[3, 1, 0]), wrong(2, 1));
+    assert_eq!(judged(&[0]).number(), 23);
 }

@@ -1,8 +1,9 @@
-use Rattle.fold.proofs.Judged.{ready, folded-done, folded-refused}
-use Rattle.fold.specs.Job.{judgeFolding}
-use Rattle.job.specs.Outcome.{done, outcome}
-use lib.ListN.{length}
 use mathlib.Core.Path.{_≡_, sym, ap, _∙_}
+use lib.ListN.{length}
+use Rattle.job.specs.Outcome.{done, outcome}
+use Rattle.job.specs.OutcomeLaws.{kept-done, kept-refused}
+use Rattle.fold.specs.Job.{judgeFolding, foldWords}
+use Rattle.fold.proofs.Judged.{unrefused}
 use borrow.Author.Needs.{needs}
 use Rattle.fold.proofs.fold.Statement.{statement}
 use Rattle.fold.proofs.fold.Tie as tie
@@ -13,24 +14,38 @@ judge-requires c κs = search needs
 enum-told : tie.Need-enum-told
 enum-told c = search needs
 
--- in the first arm no refusal is due
-fine : (c : tie.After-enum-told) → (let a = c .before .before .before .before .before .before .before .args in judgeFolding (a .level) (a .rate) (a .t .now) (a .t2 .now) (a .block .now) (a .challenge) (length (a .out .now))) ≡ done tt
-fine c = sym (c .before .before .judge .ensures) ∙ ap outcome (c .enum-told .given .1)
+-- no refusal is due
+passed : (c : tie.After-enum-told) → (let a = c .before .before .before .before .before .before .before .args in judgeFolding (a .level) (a .rate) (a .t .now) (a .t2 .now) (a .block .now) (a .challenge) (length (a .out .now))) ≡ done tt
+passed c = sym (c .before .before .judge .ensures) ∙ ap outcome (c .enum-told .given .1)
+
+new-requires : tie.Need-new-requires
+new-requires c κs = unrefused _ _ _ _ _ _ _ (passed c) .challenge
 
 fold-block-requires : tie.Need-fold-block-requires
-fold-block-requires c κs = let r = ready _ _ _ _ _ _ _ (fine (c .before)) in (r .diagonals, r .whole, r .low, r .challenge)
+fold-block-requires c κs =
+    let u = unrefused _ _ _ _ _ _ _ (passed (c .before .before)) in
+    (u .diagonals, u .whole, u .low, rw (c .before .new .ensures) (u .challenge))
 
-enum-known-answer : tie.Need-enum-known-answer
-enum-known-answer c = search needs
+enum-told-2 : tie.Need-enum-told-2
+enum-told-2 c = search needs
 
 same-length : tie.Need-same-length
 same-length c = search needs
 
 returns : tie.Need-returns
-returns c = folded-done _ _ _ _ _ _ _ (fine (c .before .before .before .before)) (c .before .before .fold-block .ensures)
+returns c =
+    let a = c .before .before .before .before .before .before .before .before .before .before .before .before .args in
+    let e = passed (c .before .before .before .before .before) in
+    let u = unrefused _ _ _ _ _ _ _ e in
+    record {
+      answer = c .before .before .before .before .before .before .before .judge .ensures;
+      result = kept-done (a .out .now) e (c .before .before .fold-block .ensures ∙ (λ k. foldWords (u .size k) (a .t .now) (a .t2 .now) (a .block .now) (c .before .before .before .before .new .ensures k)));
+    }
 
 returns-2 : tie.Need-returns-2
-returns-2 c = folded-refused _ _ _ _ _ _ _ _ (ap outcome (sym (c .before .answer .given .1)) ∙ c .before .before .before .judge .ensures)
+returns-2 c =
+    let told = c .before .before .judge .ensures in
+    record { answer = told; result = kept-refused (c .before .before .before .before .before .before .before .args .out .now) _ (sym told ∙ ap outcome (c .enum-told2 .given .1)) }
 
 pub fold-spec : {M : Type 1} → statement M
 fold-spec =
@@ -38,8 +53,9 @@ fold-spec =
     (tie.spec
     judge-requires
     enum-told
+    new-requires
     fold-block-requires
-    enum-known-answer
+    enum-told-2
     same-length
     returns
     returns-2)

@@ -1,20 +1,19 @@
--- `open::write_words` meets its contract. Assumes nothing.
 use mathlib.Core.Path.{refl, ap, _∙_}
 use lib.ListN.{replicate}
 use Rattle.open.specs.Writing.{openingWords}
-use Rattle.open.proofs.Writes.{evaluating, going, final-within, begun}
+use Rattle.open.proofs.Judged.{value-input, rounds-input, final-within, begun}
 use borrow.Author.Needs.{needs}
 use Rattle.open.proofs.write_words.Statement.{statement}
 use Rattle.open.proofs.write_words.Tie as tie
 
 value-requires : tie.Need-value-requires
-value-requires c κs = let s = c .before .before .before .before .before .before .before .before in let a = s .args in evaluating (a .depth) (a .g .now) (a .t .now) (a .t2 .now) (a .message .now) (a .z .now) (a .r .now) _ _ (s .pre) _ (search needs) (search needs)
+value-requires c κs = let s = c .before .before .before .before .before .before .before .before in let a = s .args in value-input (a .depth) (a .g .now) (a .t .now) (a .t2 .now) (a .message .now) (a .z .now) (a .r .now) _ _ (s .pre) _ (search needs) (search needs)
 
 begin-requires : tie.Need-begin-requires
 begin-requires c κs = search needs
 
 rounds-requires : tie.Need-rounds-requires
-rounds-requires c κs = let s = c .before .before .before .before .before .before .before .before .before .before .before .before .before .before .before in let a = s .args in going (a .depth) (a .g .now) (a .t .now) (a .t2 .now) (a .message .now) (a .z .now) (a .r .now) _ _ (s .pre) (a .work .now) _ _ _ (c .before .before .before .before .begin .ensures) refl (c .before .before .before .before .begin .kept .1 .0)
+rounds-requires c κs = let s = c .before .before .before .before .before .before .before .before .before .before .before .before .before .before .before in let a = s .args in rounds-input (a .depth) (a .g .now) (a .t .now) (a .t2 .now) (a .message .now) (a .z .now) (a .r .now) _ _ (s .pre) (a .work .now) _ _ _ (c .before .before .before .before .begin .ensures) refl (c .before .before .before .before .begin .kept .1 .0)
 
 give-final-requires : tie.Need-give-final-requires
 give-final-requires c κs = let s = c .before .before .before .before .before .before .before .before .before .before .before .before .before .before .before .before .before .before .before .before .before .before in let a = s .args in final-within (a .depth) (a .g .now) (a .t .now) (a .t2 .now) (a .message .now) (a .z .now) (a .r .now) _ _ (s .pre) _ _ (c .before .before .before .before .before .before .rounds .kept .1 .1 .1 .1 .1 .1 .0) (c .before .before .before .before .before .before .rounds .kept .1 .1 .1 .1 .1 .1 .1 .0 ∙ c .before .before .before .before .before .before .before .before .before .before .before .begin .kept .1 .0)

@@ -1,15 +1,20 @@
-use Rattle.residue.specs.Scans.{is-low}
-use Prim.Native.Nat.{_-_, ℕ, _<_}
+use mathlib.Core.Path.{ap, _∙_}
 use native.Mathlib.Omega.{arith}
 use lib.ListN.{length, length-take}
 use borrow.Author.Needs.{needs}
-use Rattle.polynomial.proofs.Values.{length-lower, one-word, left, right, joined, pair-size, pair}
+use Rattle.residue.specs.Residues.{el, word, _⊞_, _⊠_}
+use Rattle.residue.specs.ResidueLaws.{is-low}
+use Rattle.polynomial.specs.EvaluationLaws.{length-lower, left, right}
+use Rattle.polynomial.proofs.Values.{one-word, joined}
+use Prim.Native.Nat.{ℕ, _<_}
 use borrow.Fn.Kinds.{In}
 use borrow.Fn.PlainCycle.{Measures, is, falls, and}
 use Rattle.polynomial.proofs.value.Reads as value
 use Rattle.polynomial.proofs.value.Kinds as value-kinds
 use Rattle.polynomial.proofs.+value.Lts-value as value-lts
-use Rattle.residue.proofs.entry.plus_product.Reads as plus-product-reads
+use Rattle.polynomial.proofs.pair.Reads as pair-reads
+use Rattle.residue.proofs.Residue.new.Reads as new-reads
+use Rattle.residue.proofs.Residue.plus_product.Reads as plus-product-reads
 use Rattle.polynomial.proofs.+value.{statement}
 use Rattle.polynomial.proofs.+value.Tie.{close}
 
@@ -23,43 +28,22 @@ abbrev value-below : ℕ → In 2 value-kinds.ps
 value-below t = and 2 value-kinds.ps (falls 2 value-kinds.ps _<_ μ-value t) value.Pre
 
 abbrev rs : ℕ → value-lts.Claims
-rs t = (plus-product-reads.Asked, plus-product-reads.Learnt, value-below t, value.Post)
+rs t = (new-reads.Asked, new-reads.Learnt, pair-reads.Asked, pair-reads.Learnt, value-below t, value.Post, plus-product-reads.Asked, plus-product-reads.Learnt)
 
-value-shared-slice-read-result : (t : ℕ) → value-lts.Need-shared-slice-read-result (rs t) (value-at t) value.Post
-value-shared-slice-read-result t c =
-    let s = c .before .before .before .before in
-    let a = s .args in
-    one-word (a .m .now) (a .z .now) (s .pre .1) (omega arith) .0
+value-shared-slice-read-new : (t : ℕ) → value-lts.Need-shared-slice-read-new (rs t) (value-at t) value.Post
+value-shared-slice-read-new t c = let s = c .before .before .before .before in let a = s .args in one-word (a .m .now) (a .z .now) (s .pre .1) (omega arith) .0
+
+value-new-requires : (t : ℕ) → value-lts.Need-new-requires (rs t) (value-at t) value.Post
+value-new-requires t c κs = let s = c .before .before .before .before in let a = s .args in s .pre .1 .message .low 0 (one-word (a .m .now) (a .z .now) (s .pre .1) (omega arith) .0)
 
 value-returns : (t : ℕ) → value-lts.Need-returns (rs t) (value-at t) value.Post
-value-returns t c =
-    let s = c .before .before .before .before in
-    let a = s .args in
-    one-word (a .m .now) (a .z .now) (s .pre .1) (omega arith) .1
+value-returns t c = let s = c .before .before .before .before .before in let a = s .args in c .new .ensures ∙ one-word (a .m .now) (a .z .now) (s .pre .1) (omega arith) .1
 
-value-shared-slice-read-plus-product : (t : ℕ) → value-lts.Need-shared-slice-read-plus-product (rs t) (value-at t) value.Post
-value-shared-slice-read-plus-product t c =
-    let s = c .before .before .before .before .before in let a = s .args in omega (arith, pair-size (a .m .now) (a .z .now) (s .pre .1) (omega arith) (omega arith))
-
-value-shared-slice-read-plus-product-2 : (t : ℕ) → value-lts.Need-shared-slice-read-plus-product-2 (rs t) (value-at t) value.Post
-value-shared-slice-read-plus-product-2 t c = omega arith
-
-value-shared-slice-read-plus-product-3 : (t : ℕ) → value-lts.Need-shared-slice-read-plus-product-3 (rs t) (value-at t) value.Post
-value-shared-slice-read-plus-product-3 t c =
-    let s = c .before .before .before .before .before .before .before in let a = s .args in omega (arith, pair-size (a .m .now) (a .z .now) (s .pre .1) (omega arith) (omega arith))
-
-value-plus-product-requires : (t : ℕ) → value-lts.Need-plus-product-requires (rs t) (value-at t) value.Post
-value-plus-product-requires t c κs =
-    let s = c .before .before .before .before .before .before .before in
-    let a = s .args in
-    let n = pair-size (a .m .now) (a .z .now) (s .pre .1) (omega arith) (omega arith) in
-    (s .pre .1 .message .low 0 (omega arith), s .pre .1 .point .low 0 (omega arith), s .pre .1 .message .low 1 (omega arith))
+value-pair-requires : (t : ℕ) → value-lts.Need-pair-requires (rs t) (value-at t) value.Post
+value-pair-requires t c κs = (c .before .before .before .before .pre .1, omega arith)
 
 value-returns-2 : (t : ℕ) → value-lts.Need-returns-2 (rs t) (value-at t) value.Post
-value-returns-2 t c =
-    let s = c .before .before .before .before .before .before .before .before in
-    let a = s .args in
-    pair (a .m .now) (a .z .now) (s .pre .1) (omega arith) (omega arith) _ (c .plus-product .ensures)
+value-returns-2 t c = c .pair .ensures
 
 value-sub-top : (t : ℕ) → value-lts.Need-sub-top (rs t) (value-at t) value.Post
 value-sub-top t c = omega arith
@@ -97,34 +81,33 @@ value-value-requires-2 t c κs =
     let a = s .args in
     (omega (arith, length-lower (a .m .now) (a .z .now) (s .pre .1) (omega arith)), right (a .m .now) (a .z .now) (s .pre .1) (omega arith))
 
-value-mul-plus-product : (t : ℕ) → value-lts.Need-mul-plus-product (rs t) (value-at t) value.Post
-value-mul-plus-product t c = omega arith
+value-mul-new : (t : ℕ) → value-lts.Need-mul-new (rs t) (value-at t) value.Post
+value-mul-new t c = omega arith
 
-value-shared-slice-read-plus-product-4 : (t : ℕ) → value-lts.Need-shared-slice-read-plus-product-4 (rs t) (value-at t) value.Post
-value-shared-slice-read-plus-product-4 t c = omega arith
+value-shared-slice-read-new-2 : (t : ℕ) → value-lts.Need-shared-slice-read-new-2 (rs t) (value-at t) value.Post
+value-shared-slice-read-new-2 t c = omega arith
 
-value-plus-product-requires-2 : (t : ℕ) → value-lts.Need-plus-product-requires-2 (rs t) (value-at t) value.Post
-value-plus-product-requires-2 t c κs =
-    let s = c .before .before .before .before .before .before .before .before .before .before .before in
-    let a = s .args in
-    (omega (arith, is-low _ (c .before .before .before .before .value .ensures)), s .pre .1 .point .low _ (omega arith), omega (arith, is-low _ (c .before .value2 .ensures)))
+value-new-requires-2 : (t : ℕ) → value-lts.Need-new-requires-2 (rs t) (value-at t) value.Post
+value-new-requires-2 t c κs = c .before .before .before .before .before .before .before .before .before .before .before .pre .1 .point .low _ (omega arith)
+
+value-plus-product-requires : (t : ℕ) → value-lts.Need-plus-product-requires (rs t) (value-at t) value.Post
+value-plus-product-requires t c κs = (omega (arith, is-low _ (c .before .before .before .before .before .value .ensures)), rw (c .new2 .ensures) (c .before .before .before .before .before .before .before .before .before .before .before .before .pre .1 .point .low _ (omega arith)), omega (arith, is-low _ (c .before .before .value2 .ensures)))
 
 value-returns-3 : (t : ℕ) → value-lts.Need-returns-3 (rs t) (value-at t) value.Post
 value-returns-3 t c =
-    let s = c .before .before .before .before .before .before .before .before .before .before .before .before in
+    let s = c .before .before .before .before .before .before .before .before .before .before .before .before .before in
     let a = s .args in
-    joined (a .m .now) (a .z .now) (s .pre .1) (omega arith) _ _ _ (c .before .before .before .before .before .value .ensures) (c .before .before .value2 .ensures) (c .plus-product2 .ensures)
+    joined (a .m .now) (a .z .now) (s .pre .1) (omega arith) _ _ _ (c .before .before .before .before .before .before .value .ensures) (c .before .before .before .value2 .ensures)
+    (c .plus-product .ensures ∙ ap (λ x. word (el (c .before .before .before .before .before .before .value .result .0) ⊞ el x ⊠ el (c .before .before .before .value2 .result .0))) (c .before .new2 .ensures))
 
 pub +value-spec : {M : Type 1} → statement M
 +value-spec = close μ-value λ t. value-lts.spec (rs t)
     (value-at t)
     value.Post
-    (value-shared-slice-read-result t)
+    (value-shared-slice-read-new t)
+    (value-new-requires t)
     (value-returns t)
-    (value-shared-slice-read-plus-product t)
-    (value-shared-slice-read-plus-product-2 t)
-    (value-shared-slice-read-plus-product-3 t)
-    (value-plus-product-requires t)
+    (value-pair-requires t)
     (value-returns-2 t)
     (value-sub-top t)
     (value-slice-aggregate-value t)
@@ -136,7 +119,8 @@ pub +value-spec : {M : Type 1} → statement M
     (value-part-value-end t)
     (value-slice-aggregate-value-3 t)
     (value-value-requires-2 t)
-    (value-mul-plus-product t)
-    (value-shared-slice-read-plus-product-4 t)
-    (value-plus-product-requires-2 t)
+    (value-mul-new t)
+    (value-shared-slice-read-new-2 t)
+    (value-new-requires-2 t)
+    (value-plus-product-requires t)
     (value-returns-3 t)

@@ -1,6 +1,6 @@
+use mathlib.Core.Path.{sym, ap, _∙_}
 use Rattle.job.specs.Outcome.{done, outcome}
 use Rattle.job.specs.OutcomeLaws.{after-refused, after-done}
-use mathlib.Core.Path.{sym, ap, _∙_}
 use Rattle.polynomial.proofs.Values.{evaluates}
 use borrow.Author.Needs.{needs}
 use Rattle.polynomial.proofs.evaluate.Statement.{statement}
@@ -15,11 +15,14 @@ enum-told c = search needs
 value-requires : tie.Need-value-requires
 value-requires c κs = let a = c .before .before .before .before .before .args in evaluates (a .depth) (a .message .now) (a .point .now) (sym (c .before .before .judge .ensures) ∙ ap outcome (c .enum-told .given .1))
 
+word-requires : tie.Need-word-requires
+word-requires c κs = search needs
+
 enum-known-answer : tie.Need-enum-known-answer
 enum-known-answer c = search needs
 
 returns : tie.Need-returns
-returns c = after-done (sym (ap outcome (c .before .enum-told .given .1)) ∙ c .before .before .before .judge .ensures) (ap done (c .value .ensures))
+returns c = after-done (sym (ap outcome (c .before .before .enum-told .given .1)) ∙ c .before .before .before .before .judge .ensures) (ap done (c .word .ensures ∙ c .before .value .ensures))
 
 returns-2 : tie.Need-returns-2
 returns-2 c = after-refused _ (ap outcome (sym (c .before .answer .given .1)) ∙ c .before .before .before .judge .ensures)
@@ -27,4 +30,11 @@ returns-2 c = after-refused _ (ap outcome (sym (c .before .answer .given .1)) �
 pub evaluate-spec : {M : Type 1} → statement M
 evaluate-spec =
     tie.close
-    (tie.spec judge-requires enum-told value-requires enum-known-answer returns returns-2)
+    (tie.spec
+    judge-requires
+    enum-told
+    value-requires
+    word-requires
+    enum-known-answer
+    returns
+    returns-2)

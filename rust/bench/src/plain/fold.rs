@@ -4,7 +4,7 @@ use super::invert::Invert;
 use super::judge;
 use super::residue::{minus, plus_product, times, Reduce};
 use crate::answer::Refusal;
-use crate::sizes::{Sizes, DEEPEST};
+use crate::sizes::{Sizes, MAX_DEPTH};
 
 /// What folding is lent, besides its result.
 #[derive(Clone, Copy, Debug)]
@@ -32,7 +32,7 @@ pub fn fold<R: Reduce, I: Invert>(lent: &Folding<'_>, folded: &mut [u32]) -> Res
 }
 
 fn judge(lent: &Folding<'_>, folded: usize) -> Result<(), Refusal> {
-    judge::ensure((1..=DEEPEST).contains(&lent.level), Refusal::Depth)?;
+    judge::ensure((1..=MAX_DEPTH).contains(&lent.level), Refusal::Depth)?;
     let sizes = Sizes {
         depth: lent.level as usize,
         rate: judge::rate(lent.rate)?,

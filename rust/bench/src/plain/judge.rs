@@ -2,7 +2,7 @@
 
 use super::scan::{all_below, all_differ, none_zero};
 use crate::answer::{Code, Refusal};
-use crate::sizes::{Sizes, DEEPEST};
+use crate::sizes::{Sizes, MAX_DEPTH};
 
 /// `Ok` where the condition holds.
 pub fn ensure(holds: bool, refusal: Refusal) -> Result<(), Refusal> {
@@ -15,7 +15,7 @@ pub fn ensure(holds: bool, refusal: Refusal) -> Result<(), Refusal> {
 
 /// Refusal 1 of a depth.
 pub fn depth(depth: u32) -> Result<usize, Refusal> {
-    ensure(depth <= DEEPEST, Refusal::Depth)?;
+    ensure(depth <= MAX_DEPTH, Refusal::Depth)?;
     Ok(depth as usize)
 }
 
@@ -27,7 +27,7 @@ pub fn rate(rate: u32) -> Result<usize, Refusal> {
 
 /// Refusal 1 of a length that tells the depth.
 pub fn power(length: usize) -> Result<(), Refusal> {
-    let legal = length <= 1 << DEEPEST && length.is_power_of_two();
+    let legal = length <= 1 << MAX_DEPTH && length.is_power_of_two();
     ensure(legal, Refusal::Depth)
 }
 

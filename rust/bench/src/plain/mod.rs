@@ -23,6 +23,6 @@ pub use evaluate::evaluate;
 pub use fold::{fold, Folding};
 pub use invert::{Invert, OneChain, SixteenChains};
 pub use residue::{Mersenne, Reduce, Remainder, P};
-pub use table_to_coefficients::{table_to_coefficients, FARTHEST};
+pub use table_to_coefficients::{table_to_coefficients, MAX_CLEARANCE};
 pub use verify_opening::{verify_opening, Opened};
 pub use write_opening::write_opening;

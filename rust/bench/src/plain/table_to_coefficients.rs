@@ -6,7 +6,7 @@ use super::transform::transform;
 use crate::answer::Refusal;
 
 /// The farthest clearance, free or overlapping.
-pub const FARTHEST: i32 = 1_073_741_823;
+pub const MAX_CLEARANCE: i32 = 1_073_741_823;
 
 /// Writes the coefficients into `message`.
 pub fn table_to_coefficients(clearances: &[i32], message: &mut [u32]) -> Result<(), Refusal> {
@@ -21,7 +21,7 @@ pub fn table_to_coefficients(clearances: &[i32], message: &mut [u32]) -> Result<
 }
 
 fn all_in_range(s: &[i32]) -> bool {
-    let range = -FARTHEST..=FARTHEST;
+    let range = -MAX_CLEARANCE..=MAX_CLEARANCE;
     s.iter().fold(true, |ok, x| ok & range.contains(x))
 }
 

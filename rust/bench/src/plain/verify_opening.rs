@@ -4,7 +4,7 @@ use super::judge;
 use super::residue::{minus, plus, plus_product, times, Reduce, HALF};
 use super::write_opening::eq_factor;
 use crate::answer::{Answer, Code, Failure, Refusal};
-use crate::sizes::{Sizes, MOST_QUERIES};
+use crate::sizes::{Sizes, MAX_QUERIES};
 
 /// What verifying is lent, besides the code.
 #[derive(Clone, Copy, Debug)]
@@ -69,7 +69,7 @@ fn queries_ok(sizes: Sizes, queries: &[u32]) -> bool {
     }
     let places = sizes.block(sizes.depth - 1);
     let within = |ok, &query: &u32| ok & ((query as usize) < places);
-    (1..=MOST_QUERIES).contains(&queries.len()) && queries.iter().fold(true, within)
+    (1..=MAX_QUERIES).contains(&queries.len()) && queries.iter().fold(true, within)
 }
 
 /// The sums, from the top one down: the claim that is left.

@@ -1,7 +1,8 @@
 //! Times of several sides, taken in turns, so that what else the machine does meets all of them.
 
+use super::clock;
 use std::hint::black_box;
-use std::time::{Duration, Instant};
+use std::time::Duration;
 use tvarchula_bench::Buffers;
 
 /// How much is measured.
@@ -62,6 +63,12 @@ pub fn median<const N: usize>(samples: &Samples<N>, side: usize) -> f64 {
     quartiles(samples.iter().map(|times| times[side]))[1]
 }
 
+/// The least time of a side.
+pub fn least<const N: usize>(samples: &Samples<N>, side: usize) -> f64 {
+    let times = samples.iter().map(|times| times[side]);
+    times.fold(f64::INFINITY, f64::min)
+}
+
 /// The first side's time by another's, in each sample: the quartiles. A sample's sides meet the
 /// machine in the same state, so that the ratio tells more than that of two medians.
 pub fn ratios<const N: usize>(samples: &Samples<N>, other: usize) -> [f64; 3] {
@@ -81,14 +88,14 @@ fn repeats(least: Duration, fastest: Duration) -> u32 {
     least.as_nanos().div_ceil(once).max(1) as u32
 }
 
-/// The buffers are refilled outside the time taken.
+/// The thread's time. The buffers are refilled outside it.
 fn time(repeats: u32, buffers: &mut Buffers, side: Side<'_>) -> Duration {
     buffers.refill();
-    let start = Instant::now();
+    let start = clock::now();
     for _ in 0..repeats {
         side(black_box(buffers));
     }
-    start.elapsed()
+    clock::now() - start
 }
 
 fn quartiles(values: impl Iterator<Item = f64>) -> [f64; 3] {

@@ -1,15 +1,16 @@
 //! The report: what is measured, and the tables that tell it.
 
+mod clock;
 mod machine;
 pub mod measure;
 mod scan;
 mod table;
 mod times;
 
-use measure::{median, ratios, Plan};
+use measure::{least, median, ratios, Plan};
 use scan::Scans;
 use table::Table;
-use times::{Case, Times, CASES, FOLD_CHAINS};
+use times::{Case, Times, CASES, FOLD_ONE_CHAIN};
 use tvarchula_bench::{Buffers, Inputs, Sizes};
 
 /// The rate of all measurements.
@@ -17,11 +18,14 @@ const RATE: usize = 8;
 
 /// What stands above each table.
 const TIMES: &str = "\
-One call of each job, `plain %` with the remainder of a division where `plain` uses that the modulus is a
-Mersenne prime. `fold` inverts in one chain of products in plain Rust, `fold, chains` in sixteen as the library does.
-Times are medians. A ratio is the median of the samples' ratios, with its quartiles.";
+One call of each job, in microseconds of the thread's processor time: the median and the least of all samples. A ratio
+is the median of the samples' ratios with its quartiles; behind it stands the ratio of the two least times. Plain Rust works
+as the library does: a fold inverts in sixteen chains of products on both sides. `fold, one chain` has plain Rust invert
+in one chain, as is usual. Plain Rust reduces products by the shape of the Mersenne prime.";
+const REMAINDER: &str = "\
+The same beside plain Rust that reduces products by `%`.";
 const GROWTH: &str = "\
-Nanoseconds for each word of the block; for tables and evaluation, of the message. Encoding, decoding,
+Nanoseconds for each word of the block, by the least times; for tables and evaluation, of the message. Encoding, decoding,
 writing and the tables make one pass for each level, so that theirs grow with the depth.";
 const MEMORY: &str = "Bytes of the slices lent to one call. The library allocates nothing.";
 
@@ -37,21 +41,21 @@ pub fn print(plan: Plan, depths: &[usize]) {
         }
         scan::add(plan, &lent, &mut scans);
     }
-    println!("# The library and plain Rust at rate {RATE}\n");
     let samples = plan.rounds * plan.samples;
     println!(
         "{} {samples} samples in {} rounds.\n",
         machine::line(),
         plan.rounds
     );
-    println!("## Times\n\n{TIMES}\n\n{}", compared(&lent, &times));
-    println!("## Growth\n\n{GROWTH}\n\n{}", growth(&lent, &times));
+    println!("### Times\n\n{TIMES}\n\n{}", compared(&lent, &times, 1));
+    println!("{REMAINDER}\n\n{}", compared(&lent, &times, 2));
+    println!("### Growth\n\n{GROWTH}\n\n{}", growth(&lent, &times));
     println!(
-        "## Scan\n\n{}\n\n{}",
+        "### Scan\n\n{}\n\n{}",
         scan::ABOUT,
         scan::table(&lent, &scans)
     );
-    print!("## Lent memory\n\n{MEMORY}\n\n{}", memory(&mut lent));
+    print!("### Lent memory\n\n{MEMORY}\n\n{}", memory(&mut lent));
 }
 
 /// One round of a case at all depths.
@@ -62,28 +66,31 @@ fn add_times(plan: Plan, case: &Case, lent: &mut [Inputs], times: &mut [Times]) 
     }
 }
 
-/// Times, and ratios of times.
-fn compared(lent: &[Inputs], times: &[Vec<Times>]) -> Table {
+/// Times, and ratios of times, of the library and another side.
+fn compared(lent: &[Inputs], times: &[Vec<Times>], side: usize) -> Table {
+    let plain = ["", "plain", "plain %"][side];
     let mut table = Table::new([
-        "job",
-        "depth",
-        "library, µs",
-        "plain, µs",
-        "library / plain",
-        "plain %, µs",
-        "library / plain %",
+        "job".to_owned(),
+        "depth".to_owned(),
+        "library".to_owned(),
+        "least".to_owned(),
+        plain.to_owned(),
+        "least".to_owned(),
+        format!("library / {plain}"),
+        "of the least".to_owned(),
     ]);
     for (case, times) in CASES.iter().zip(times) {
+        // The reduction makes no difference to these: they stand in the first table only.
+        if side > 1 && case.adds_only() {
+            continue;
+        }
         for (inputs, t) in lent.iter().zip(times) {
-            let by = |side: usize| [micros(median(t, side)), ratio(ratios(t, side))];
+            let both = |of: usize| [micros(median(t, of)), micros(least(t, of))];
             let mut row = vec![case.name.to_owned(), inputs.depth.to_string()];
-            row.push(micros(median(t, 0)));
-            row.extend(by(1));
-            if case.adds_only() {
-                row.extend(["".to_owned(), "".to_owned()]);
-            } else {
-                row.extend(by(2));
-            }
+            row.extend(both(0));
+            row.extend(both(side));
+            row.push(ratio(ratios(t, side)));
+            row.push(format!("{:.2}", least(t, 0) / least(t, side)));
             table.row(row);
         }
     }
@@ -112,7 +119,7 @@ fn growth(lent: &[Inputs], times: &[Vec<Times>]) -> Table {
             let each = lent.iter().zip(times);
             each.map(move |(inputs, t)| {
                 let words = case.main_slice(inputs).len();
-                format!("{:.2}", median(t, side) / words as f64)
+                format!("{:.2}", least(t, side) / words as f64)
             })
         };
         let name = [case.name.to_owned()].into_iter();
@@ -125,7 +132,7 @@ fn growth(lent: &[Inputs], times: &[Vec<Times>]) -> Table {
 fn memory(lent: &mut [Inputs]) -> Table {
     let mut table = Table::new(["job", "depth", "read", "result", "work", "all"]);
     // The second fold differs only in plain Rust.
-    for case in CASES.iter().filter(|case| case.name != FOLD_CHAINS.name) {
+    for case in CASES.iter().filter(|case| case.name != FOLD_ONE_CHAIN.name) {
         for inputs in lent.iter_mut() {
             inputs.draw_queries(case.queries);
             let buffers = Buffers::of(case.job, inputs);

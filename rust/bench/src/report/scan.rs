@@ -1,6 +1,6 @@
 //! The scan for words below p, by a call that does nothing else.
 
-use super::measure::{measure, median, ratios, Plan, Samples, Side};
+use super::measure::{least, measure, median, ratios, Plan, Samples, Side};
 use super::ratio;
 use super::table::Table;
 use std::hint::black_box;
@@ -10,7 +10,8 @@ use tvarchula_bench::{call, Buffers, Inputs, Job, Library, Plain};
 /// What stands above the table.
 pub const ABOUT: &str = "\
 `tv_verify_opening` with an opening whose last word is the modulus: it tests each word of each slice once,
-then refuses with 4. `sum` is plain Rust that adds the same words and tests nothing.";
+then refuses with 4. `sum` is plain Rust that adds the same words and tests nothing. Speeds are of the median, and in
+brackets of the least time.";
 
 /// Verifying with an opening whose last word is p is refused with 4 once every word of every slice
 /// has been read: nothing is computed. The query list is empty, since no scan of it comes first.
@@ -52,7 +53,11 @@ pub fn table(lent: &[Inputs], scans: &[Scans]) -> Table {
     ]);
     for (inputs, scans) in lent.iter().map(refused).zip(scans) {
         let bytes = inputs.bytes(Job::Verify);
-        let speed = |side: usize| format!("{:.1}", bytes as f64 / median(scans, side));
+        let speed = |nanos: f64| bytes as f64 / nanos;
+        let speed = |side: usize| {
+            let (median, least) = (median(scans, side), least(scans, side));
+            format!("{:.1} ({:.1})", speed(median), speed(least))
+        };
         let mut row = vec![inputs.depth.to_string(), bytes.to_string()];
         row.extend([0, 1, 2].map(speed));
         row.extend([1, 2].map(|other| ratio(ratios(scans, other))));

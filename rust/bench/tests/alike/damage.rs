@@ -1,7 +1,7 @@
 //! Ways to spoil a call. A job that does not take what is spoiled answers as before.
 
-use tvarchula_bench::plain::{FARTHEST, P};
-use tvarchula_bench::{Buffers, Inputs, DEEPEST, MOST_QUERIES};
+use tvarchula_bench::plain::{MAX_CLEARANCE, P};
+use tvarchula_bench::{Buffers, Inputs, MAX_DEPTH, MAX_QUERIES};
 
 /// One way to spoil a call.
 pub type Damage = fn(&mut Inputs, &mut Buffers);
@@ -9,7 +9,7 @@ pub type Damage = fn(&mut Inputs, &mut Buffers);
 /// All of them, by the refusals and failures that they aim at.
 pub const ALL: &[Damage] = &[
     // 1 and 2
-    |i, _| i.depth = DEEPEST + 1,
+    |i, _| i.depth = MAX_DEPTH + 1,
     |i, _| i.depth = 0,
     |i, _| i.rate = 1,
     |i, _| i.rate = 17,
@@ -48,15 +48,15 @@ pub const ALL: &[Damage] = &[
     |i, _| equal_pair(&i.t, &mut i.t2),
     |i, _| equal_pair(&i.fold_t, &mut i.fold_t2),
     |i, _| i.queries.clear(),
-    |i, _| i.queries.resize(MOST_QUERIES, 0),
-    |i, _| i.queries.resize(MOST_QUERIES + 1, 0),
+    |i, _| i.queries.resize(MAX_QUERIES, 0),
+    |i, _| i.queries.resize(MAX_QUERIES + 1, 0),
     |i, _| set(i.queries.last_mut(), i.fold_t.len() as u32),
     // 8 and 23
     |i, _| moved(i.block.first_mut()),
     |i, _| moved(i.block.last_mut()),
     |i, _| queried(i),
     // 9
-    |i, _| set(i.clearances.last_mut(), FARTHEST + 1),
+    |i, _| set(i.clearances.last_mut(), MAX_CLEARANCE + 1),
     |i, _| set(i.clearances.last_mut(), i32::MIN),
     // 20 to 23
     |i, _| i.y = (i.y + 1) % P,
@@ -67,7 +67,7 @@ pub const ALL: &[Damage] = &[
     |i, _| moved(middle(&mut i.g)),
     // Other words, but nothing to refuse
     |i, _| i.message.fill(P - 1),
-    |i, _| i.clearances.fill(-FARTHEST),
+    |i, _| i.clearances.fill(-MAX_CLEARANCE),
 ];
 
 fn longer<T: Default>(slice: &mut Vec<T>) {

@@ -1,53 +1,8 @@
 //! Encoding, decoding, folding.
 
-use super::{Linked, RawAnswer};
+use super::{answer, Linked};
 use tvarchula_reference::{Answer, CodeJobs, LentCode};
-
-extern "C" {
-    fn tv_encode(
-        depth: u32,
-        rate: u32,
-        g: *const u32,
-        g_length: usize,
-        t: *const u32,
-        t_length: usize,
-        t2: *const u32,
-        t2_length: usize,
-        message: *const u32,
-        message_length: usize,
-        block: *mut u32,
-        block_length: usize,
-    ) -> RawAnswer;
-    fn tv_decode(
-        depth: u32,
-        rate: u32,
-        g: *const u32,
-        g_length: usize,
-        t: *const u32,
-        t_length: usize,
-        t2: *const u32,
-        t2_length: usize,
-        block: *const u32,
-        block_length: usize,
-        message: *mut u32,
-        message_length: usize,
-        work: *mut u32,
-        work_length: usize,
-    ) -> RawAnswer;
-    fn tv_fold(
-        level: u32,
-        rate: u32,
-        t: *const u32,
-        t_length: usize,
-        t2: *const u32,
-        t2_length: usize,
-        block: *const u32,
-        block_length: usize,
-        challenge: u32,
-        out: *mut u32,
-        out_length: usize,
-    ) -> RawAnswer;
-}
+use tvarchula_sys::{tv_decode, tv_encode, tv_fold};
 
 // SAFETY of all calls below: every pointer is that of a slice with its own length, alive during the
 // call, distinct from the others because the written ones are borrowed alone.
@@ -69,7 +24,7 @@ impl CodeJobs for Linked {
                 block.len(),
             )
         };
-        raw.into()
+        answer(raw)
     }
 
     fn decode(lent: LentCode, block: &[u32], message: &mut [u32], work: &mut [u32]) -> Answer {
@@ -91,7 +46,7 @@ impl CodeJobs for Linked {
                 work.len(),
             )
         };
-        raw.into()
+        answer(raw)
     }
 
     fn fold(
@@ -118,6 +73,6 @@ impl CodeJobs for Linked {
                 out.len(),
             )
         };
-        raw.into()
+        answer(raw)
     }
 }

@@ -1,41 +1,10 @@
 //! Readings, tables and evaluation.
 
-use super::{Linked, RawAnswer};
+use super::{answer, Linked};
 use tvarchula_reference::{Answer, GroundJobs, Reading};
-
-/// `tv_reading`.
-#[repr(C)]
-struct RawReading {
-    number: u32,
-    kind: u32,
-    amount: u32,
-}
-
-extern "C" {
-    fn tv_read_clearance(word: u32) -> RawReading;
-    fn tv_table_to_coefficients(
-        clearances: *const i32,
-        clearances_length: usize,
-        message: *mut u32,
-        message_length: usize,
-    ) -> RawAnswer;
-    fn tv_coefficients_to_table(
-        message: *const u32,
-        message_length: usize,
-        clearances: *mut i32,
-        clearances_length: usize,
-        work: *mut u32,
-        work_length: usize,
-    ) -> RawAnswer;
-    fn tv_evaluate(
-        depth: u32,
-        message: *const u32,
-        message_length: usize,
-        z: *const u32,
-        z_length: usize,
-        value: *mut u32,
-    ) -> RawAnswer;
-}
+use tvarchula_sys::{
+    tv_coefficients_to_table, tv_evaluate, tv_read_clearance, tv_table_to_coefficients,
+};
 
 // SAFETY of all calls below: every pointer is that of a slice with its own length, alive during the
 // call, distinct from the others because the written ones are borrowed alone.
@@ -58,7 +27,7 @@ impl GroundJobs for Linked {
                 message.len(),
             )
         };
-        raw.into()
+        answer(raw)
     }
 
     fn coefficients_to_table(message: &[u32], clearances: &mut [i32], work: &mut [u32]) -> Answer {
@@ -72,7 +41,7 @@ impl GroundJobs for Linked {
                 work.len(),
             )
         };
-        raw.into()
+        answer(raw)
     }
 
     fn evaluate(depth: u32, message: &[u32], z: &[u32], value: &mut u32) -> Answer {
@@ -86,6 +55,6 @@ impl GroundJobs for Linked {
                 value,
             )
         };
-        raw.into()
+        answer(raw)
     }
 }

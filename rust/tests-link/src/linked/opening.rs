@@ -1,52 +1,8 @@
 //! Writing and verifying openings.
 
-use super::{Linked, RawAnswer};
+use super::{answer, Linked};
 use tvarchula_reference::{Answer, LentCode, OpeningJobs};
-
-extern "C" {
-    fn tv_write_opening(
-        depth: u32,
-        rate: u32,
-        g: *const u32,
-        g_length: usize,
-        t: *const u32,
-        t_length: usize,
-        t2: *const u32,
-        t2_length: usize,
-        message: *const u32,
-        message_length: usize,
-        z: *const u32,
-        z_length: usize,
-        r: *const u32,
-        r_length: usize,
-        opening: *mut u32,
-        opening_length: usize,
-        work: *mut u32,
-        work_length: usize,
-        value: *mut u32,
-    ) -> RawAnswer;
-    fn tv_verify_opening(
-        depth: u32,
-        rate: u32,
-        g: *const u32,
-        g_length: usize,
-        t: *const u32,
-        t_length: usize,
-        t2: *const u32,
-        t2_length: usize,
-        block: *const u32,
-        block_length: usize,
-        z: *const u32,
-        z_length: usize,
-        y: u32,
-        r: *const u32,
-        r_length: usize,
-        queries: *const u32,
-        queries_length: usize,
-        opening: *const u32,
-        opening_length: usize,
-    ) -> RawAnswer;
-}
+use tvarchula_sys::{tv_verify_opening, tv_write_opening};
 
 // SAFETY of all calls below: every pointer is that of a slice with its own length, alive during the
 // call, distinct from the others because the written ones are borrowed alone.
@@ -83,7 +39,7 @@ impl OpeningJobs for Linked {
                 value,
             )
         };
-        raw.into()
+        answer(raw)
     }
 
     fn verify_opening(
@@ -118,6 +74,6 @@ impl OpeningJobs for Linked {
                 opening.len(),
             )
         };
-        raw.into()
+        answer(raw)
     }
 }

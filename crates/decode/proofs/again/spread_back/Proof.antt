@@ -1,4 +1,8 @@
-use mathlib.Core.Path.{_≡_, refl}
+use Rattle.algebra.specs.Words.{𝔽₁}
+use Rattle.algebra.specs.WordLists.{elements, toWords}
+use Rattle.residue.specs.Residues.{el}
+use Rattle.code.specs.Steps.{times}
+use mathlib.Core.Path.{_≡_, refl, ap, _∙_}
 use Prim.Native.Nat.{_*_, _≤_}
 use native.Mathlib.Omega.{arith}
 use lib.ListN.{length, length-take, length-drop}
@@ -22,17 +26,17 @@ sub-b : tie.Need-sub-b Inv-loop μ-loop
 sub-b c =
     let s = c .before .before .before .before in let a = s .args in let l = c .before .loop in omega (arith, starts (a .n) (a .g .now) (a .work .now) (s .pre) (l .i) (l .e) (l .work) (omega arith) (l .inv .0) (l .inv .1) (l .inv .3))
 
-mul-a : tie.Need-mul-a Inv-loop μ-loop
-mul-a c =
-    let s = c .before .before .before .before in let a = s .args in let l = c .before .loop in omega (arith, fits (a .n) (a .g .now) (a .work .now) (s .pre))
+mul-new : tie.Need-mul-new Inv-loop μ-loop
+mul-new c = let s = c .before .before .before .before in let a = s .args in let l = c .before .loop in omega (arith, fits (a .n) (a .g .now) (a .work .now) (s .pre))
 
-slice-read-a : tie.Need-slice-read-a Inv-loop μ-loop
-slice-read-a c =
-    let s = c .before .before .before .before .before in let a = s .args in let l = c .before .before .loop in omega (arith, fits (a .n) (a .g .now) (a .work .now) (s .pre))
+slice-read-new : tie.Need-slice-read-new Inv-loop μ-loop
+slice-read-new c = let s = c .before .before .before .before .before in let a = s .args in let l = c .before .before .loop in omega (arith, fits (a .n) (a .g .now) (a .work .now) (s .pre))
+
+new-requires : tie.Need-new-requires Inv-loop μ-loop
+new-requires c κs = let s = c .before .before .before .before .before in let a = s .args in let l = c .before .before .loop in word-low (a .n) (a .g .now) (a .work .now) (s .pre) (l .i) (l .e) (l .work) (omega arith) (l .inv .0) (l .inv .1) (l .inv .3)
 
 mul-scale : tie.Need-mul-scale Inv-loop μ-loop
-mul-scale c =
-    let s = c .before .before .before .before .before in let a = s .args in let l = c .before .before .loop in omega (arith, ends (a .n) (a .g .now) (a .work .now) (s .pre) (l .i) (l .e) (l .work) (omega arith) (l .inv .0) (l .inv .1) (l .inv .3))
+mul-scale c = let s = c .before .before .before .before .before .before in let a = s .args in let l = c .before .before .before .loop in omega (arith, ends (a .n) (a .g .now) (a .work .now) (s .pre) (l .i) (l .e) (l .work) (omega arith) (l .inv .0) (l .inv .1) (l .inv .3))
 
 sub-scale : tie.Need-sub-scale Inv-loop μ-loop
 sub-scale c = omega arith
@@ -41,19 +45,25 @@ part-scale-start : tie.Need-part-scale-start Inv-loop μ-loop
 part-scale-start c = omega arith
 
 part-scale-end : tie.Need-part-scale-end Inv-loop μ-loop
-part-scale-end c =
-    let s = c .before .before .before .before .before in let a = s .args in let l = c .before .before .loop in omega (arith, ends (a .n) (a .g .now) (a .work .now) (s .pre) (l .i) (l .e) (l .work) (omega arith) (l .inv .0) (l .inv .1) (l .inv .3))
+part-scale-end c = let s = c .before .before .before .before .before .before in let a = s .args in let l = c .before .before .before .loop in omega (arith, ends (a .n) (a .g .now) (a .work .now) (s .pre) (l .i) (l .e) (l .work) (omega arith) (l .inv .0) (l .inv .1) (l .inv .3))
 
 scale-requires : tie.Need-scale-requires Inv-loop μ-loop
 scale-requires c κs =
-    let s = c .before .before .before .before .before .before in let a = s .args in let l = c .before .before .before .loop in let st = starts (a .n) (a .g .now) (a .work .now) (s .pre) (l .i) (l .e) (l .work) (omega arith) (l .inv .0) (l .inv .1) (l .inv .3) in let en = ends (a .n) (a .g .now) (a .work .now) (s .pre) (l .i) (l .e) (l .work) (omega arith) (l .inv .0) (l .inv .1) (l .inv .3) in (word-low (a .n) (a .g .now) (a .work .now) (s .pre) (l .i) (l .e) (l .work) (omega arith) (l .inv .0) (l .inv .1) (l .inv .3), s .pre .row, simp (length-take, length-drop) (omega arith))
+    let s = c .before .before .before .before .before .before .before in let a = s .args in let l = c .before .before .before .before .loop in
+    let st = starts (a .n) (a .g .now) (a .work .now) (s .pre) (l .i) (l .e) (l .work) (omega arith) (l .inv .0) (l .inv .1) (l .inv .3) in
+    let en = ends (a .n) (a .g .now) (a .work .now) (s .pre) (l .i) (l .e) (l .work) (omega arith) (l .inv .0) (l .inv .1) (l .inv .3) in
+    (rw (c .before .new .ensures) (word-low (a .n) (a .g .now) (a .work .now) (s .pre) (l .i) (l .e) (l .work) (omega arith) (l .inv .0) (l .inv .1) (l .inv .3)), s .pre .row, simp (length-take, length-drop) (omega arith))
 
 loop-less : tie.Need-loop-less Inv-loop μ-loop
 loop-less c = omega arith
 
 loop-again : tie.Need-loop-again Inv-loop μ-loop
 loop-again c =
-    let s = c .before .before .before .before .before .before .before .before .before in let a = s .args in let l = c .before .before .before .before .before .before .loop in let st = starts (a .n) (a .g .now) (a .work .now) (s .pre) (l .i) (l .e) (l .work) (omega arith) (l .inv .0) (l .inv .1) (l .inv .3) in let p = back-turn (a .n) (a .g .now) (a .work .now) (s .pre) (l .i) (l .e) (l .work) (omega arith) (l .inv .0) (l .inv .1) (l .inv .3) _ _ refl (c .before .before .scale .ensures) in (omega arith, omega arith, back-length (a .n) (a .g .now) (a .work .now) (s .pre) _ _ p, p)
+    let s = c .before .before .before .before .before .before .before .before .before .before in let a = s .args in let l = c .before .before .before .before .before .before .before .loop in
+    let st = starts (a .n) (a .g .now) (a .work .now) (s .pre) (l .i) (l .e) (l .work) (omega arith) (l .inv .0) (l .inv .1) (l .inv .3) in
+    let made = c .before .before .scale .ensures ∙ ap (λ x. toWords 𝔽₁ (times (el x) (elements 𝔽₁ (a .g .now)))) (c .before .before .before .before .new .ensures) in
+    let p = back-turn (a .n) (a .g .now) (a .work .now) (s .pre) (l .i) (l .e) (l .work) (omega arith) (l .inv .0) (l .inv .1) (l .inv .3) _ _ refl made in
+    (omega arith, omega arith, back-length (a .n) (a .g .now) (a .work .now) (s .pre) _ _ p, p)
 
 same-length : tie.Need-same-length Inv-loop μ-loop
 same-length c = omega arith
@@ -71,8 +81,9 @@ spread-back-spec =
     loop-holds
     sub-i
     sub-b
-    mul-a
-    slice-read-a
+    mul-new
+    slice-read-new
+    new-requires
     mul-scale
     sub-scale
     part-scale-start

@@ -1,5 +1,4 @@
 use mathlib.Core.Path.{refl, sym, ap, _∙_}
-use lib.ListN.{replicate}
 use Rattle.job.specs.Outcome.{outcome}
 use Rattle.decode.specs.Decoding.{refusal, settled}
 use Rattle.decode.specs.Laws.{decodes}
@@ -15,10 +14,8 @@ enum-told c = search needs
 
 settle-requires : tie.Need-settle-requires
 settle-requires c κs =
-    let s = c .before .before .before .before .before .before .before .before .before .before .before in let a = s .args in let told = c .before .before .before .before .judge .ensures in decodes (a .depth) (a .rate) (a .g .now) (a .t .now) (a .t2 .now) (a .block .now) _ _ (sym told ∙ ap outcome (c .before .before .enum-told .given .1))
-
-clear-requires : tie.Need-clear-requires
-clear-requires c κs = search needs
+    let a = c .before .before .before .before .before .before .before .before .before .before .before .args in
+    decodes (a .depth) (a .rate) (a .g .now) (a .t .now) (a .t2 .now) (a .block .now) _ _ (sym (c .before .before .before .before .judge .ensures) ∙ ap outcome (c .before .before .enum-told .given .1))
 
 same-length : tie.Need-same-length
 same-length c = search needs
@@ -28,7 +25,8 @@ same-length-2 c = search needs
 
 returns : tie.Need-returns
 returns c =
-    let told = c .before .before .before .before .before .before .before .before .before .before .before .before .before .judge .ensures in settled (sym told ∙ ap outcome (c .before .before .before .before .before .before .before .before .before .before .before .enum-told .given .1)) (c .before .before .before .before .before .before .before .before .settle .ensures) (c .before .before .clear .ensures ∙ ap (λ n. replicate n 0) (c .before .before .before .before .before .before .before .before .settle .kept .1 .1 .1 .1 .1 .1 .0))
+    let e = c .before .before .before .before .settle .ensures in
+    settled (sym (c .before .before .before .before .before .before .before .before .before .judge .ensures) ∙ ap outcome (c .before .before .before .before .before .before .before .enum-told .given .1)) (e .0) (e .1)
 
 enum-told-2 : tie.Need-enum-told-2
 enum-told-2 c = search needs
@@ -43,7 +41,6 @@ decode-spec =
     judge-requires
     enum-told
     settle-requires
-    clear-requires
     same-length
     same-length-2
     returns

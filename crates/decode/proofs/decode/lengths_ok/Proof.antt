@@ -1,47 +1,57 @@
 use mathlib.Core.Path.{sym}
 use borrow.Author.Tests.{eq-eqb, ne-eqb, leb-true}
-use Rattle.algebra.specs.Flags.{passes, fails}
+use Rattle.algebra.specs.Flags.{passes, stops₂, goes₂}
+use Rattle.algebra.specs.Tests.{and-both}
 use Rattle.job.specs.LimitLaws.{rate-most}
+use Rattle.parameters.specs.Parameters.{inLimits, rowLengths}
 use Rattle.decode.specs.Decoding.{decodeLengths}
 use borrow.Author.Needs.{needs}
 use Rattle.decode.proofs.decode.lengths_ok.Statement.{statement}
 use Rattle.decode.proofs.decode.lengths_ok.Tie as tie
-
-block-len-requires : tie.Need-block-len-requires
-block-len-requires c κs = (leb-true _ _ (c .pre .0), rate-most _ (c .pre .1))
 
 lengths-ok-requires : tie.Need-lengths-ok-requires
 lengths-ok-requires c κs = search needs
 
 returns : tie.Need-returns
 unfolding decodeLengths
-returns c = sym (rw (fails (c .before .lengths-ok .ensures) (c .if1 .taken)))
+returns c =
+    let a = c .before .before .args in
+    stops₂ (inLimits (a .depth) (a .rate)) (rowLengths (a .depth) (a .rate) (a .g) (a .t) (a .t2)) _ (c .before .lengths-ok .ensures) (c .if1 .taken)
+
+block-len-requires : tie.Need-block-len-requires
+block-len-requires c κs = let l = and-both _ _ (passes (c .before .lengths-ok .ensures) (c .if1 .left)) in let w = and-both _ _ (l .0) in (leb-true _ _ (w .0), rate-most _ (w .1))
 
 returns-2 : tie.Need-returns-2
 unfolding decodeLengths
 returns-2 c =
-    sym (rw (← (c .before .before .before .block-len .ensures), passes (c .before .before .lengths-ok .ensures) (c .before .if1 .left), ne-eqb _ _ (c .if2 .taken)))
+    let a = c .before .before .before .before .args in
+    goes₂ (inLimits (a .depth) (a .rate)) (rowLengths (a .depth) (a .rate) (a .g) (a .t) (a .t2)) (c .before .before .before .lengths-ok .ensures) (c .before .before .if1 .left)
+    (sym (rw (← (c .before .block-len .ensures), ne-eqb _ _ (c .if2 .taken))))
 
 message-len-requires : tie.Need-message-len-requires
-message-len-requires c κs = search needs
+message-len-requires c κs = let l = and-both _ _ (passes (c .before .before .before .lengths-ok .ensures) (c .before .before .if1 .left)) in let w = and-both _ _ (l .0) in leb-true _ _ (w .0)
 
 returns-3 : tie.Need-returns-3
 unfolding decodeLengths
 returns-3 c =
-    sym (rw (← (c .before .before .before .before .before .block-len .ensures), ← (c .before .message-len .ensures), passes (c .before .before .before .before .lengths-ok .ensures) (c .before .before .before .if1 .left), eq-eqb _ _ (c .before .before .if2 .left), ne-eqb _ _ (c .if3 .taken)))
+    let a = c .before .before .before .before .before .before .args in
+    goes₂ (inLimits (a .depth) (a .rate)) (rowLengths (a .depth) (a .rate) (a .g) (a .t) (a .t2)) (c .before .before .before .before .before .lengths-ok .ensures) (c .before .before .before .before .if1 .left)
+    (sym (rw (← (c .before .before .before .block-len .ensures), ← (c .before .message-len .ensures), eq-eqb _ _ (c .before .before .if2 .left), ne-eqb _ _ (c .if3 .taken))))
 
 returns-4 : tie.Need-returns-4
 unfolding decodeLengths
 returns-4 c =
-    sym (rw (← (c .before .before .before .before .before .block-len .ensures), ← (c .before .message-len .ensures), passes (c .before .before .before .before .lengths-ok .ensures) (c .before .before .before .if1 .left), eq-eqb _ _ (c .before .before .if2 .left), eq-eqb _ _ (c .if3 .left)))
+    let a = c .before .before .before .before .before .before .args in
+    goes₂ (inLimits (a .depth) (a .rate)) (rowLengths (a .depth) (a .rate) (a .g) (a .t) (a .t2)) (c .before .before .before .before .before .lengths-ok .ensures) (c .before .before .before .before .if1 .left)
+    (sym (rw (← (c .before .before .before .block-len .ensures), ← (c .before .message-len .ensures), eq-eqb _ _ (c .before .before .if2 .left), eq-eqb _ _ (c .if3 .left))))
 
 pub lengths-ok-spec : {M : Type 1} → statement M
 lengths-ok-spec =
     tie.close
     (tie.spec
-    block-len-requires
     lengths-ok-requires
     returns
+    block-len-requires
     returns-2
     message-len-requires
     returns-3

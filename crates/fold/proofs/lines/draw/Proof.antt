@@ -1,9 +1,9 @@
 use Rattle.fold.specs.Steps.{through, throughAll}
-use Rattle.residue.specs.Residues.{el, word}
+use Rattle.residue.specs.Residues.{el, elem, word}
 use Prim.Native.Nat.{_-_, _+_, _≤_}
 use lib.ListN.{length, getD}
 use mathlib.Core.Path.{_≡_, ap, sym, _∙_}
-use Rattle.fold.proofs.Chains.{length-rows, getD-rows}
+use Rattle.inversion.specs.InversionLaws.{length-rows, getD-rows}
 use Rattle.algebra.specs.WordLists.{toWords}
 use Rattle.algebra.specs.Words.{𝔽₁}
 use Rattle.algebra.specs.Filling.{Filled, filled-none, filled-turn, filled-end, filled-length, filled-old}
@@ -14,47 +14,33 @@ use Rattle.fold.proofs.lines.draw.Statement.{statement}
 use Rattle.fold.proofs.lines.draw.Tie as tie
 
 abbrev Inv-loop : tie.InvT-loop
-Inv-loop t block challenge out₀ n j₀ out j = (j ≤ n) × (length out ≡ length out₀) × Filled j (toWords 𝔽₁ (row (length out₀) (throughAll (length out₀) challenge t block out₀))) out₀ out
+Inv-loop t block challenge out₀ j₀ out j = (j ≤ length out₀) × (length out ≡ length out₀) × Filled j (toWords 𝔽₁ (row (length out₀) (throughAll (length out₀) (elem challenge) t block out₀))) out₀ out
 
 abbrev μ-loop : tie.MeasureT-loop
-μ-loop t block challenge out₀ n j₀ out j = n - j
+μ-loop t block challenge out₀ j₀ out j = length out₀ - j
 
 loop-holds : tie.Need-loop-holds Inv-loop μ-loop
 loop-holds c = (omega arith, omega arith, filled-none _ _)
 
-mul-line : tie.Need-mul-line Inv-loop μ-loop
-mul-line c = search needs
+line-at-requires : tie.Need-line-at-requires Inv-loop μ-loop
+line-at-requires c κs =
+    let s = c .before .before .before .before .before .before in
+    let l = c .before .before .loop in
+    let p = s .pre .1 in
+    let same = l .inv .1 in (
+      s .pre .0,
+      record {
+        within = omega arith;
+        first = p .first ∙ sym same;
+        whole = p .whole ∙ ap (λ n. n + n) (sym same);
+        low = p .low;
+        block = p .block;
+        inverse = rw (filled-old (l .inv .2) (l .j) 0 (omega arith)) (p .inverses .low (l .j) (omega arith));
+      },
+    )
 
-shared-slice-read-line : tie.Need-shared-slice-read-line Inv-loop μ-loop
-shared-slice-read-line c = search needs
-
-mul-line-2 : tie.Need-mul-line-2 Inv-loop μ-loop
-mul-line-2 c = search needs
-
-slice-read-line : tie.Need-slice-read-line Inv-loop μ-loop
-slice-read-line c = search needs
-
-mul-line-3 : tie.Need-mul-line-3 Inv-loop μ-loop
-mul-line-3 c = search needs
-
-shared-slice-read-line-2 : tie.Need-shared-slice-read-line-2 Inv-loop μ-loop
-shared-slice-read-line-2 c = search needs
-
-add-line : tie.Need-add-line Inv-loop μ-loop
-add-line c = search needs
-
-mul-line-4 : tie.Need-mul-line-4 Inv-loop μ-loop
-mul-line-4 c = search needs
-
-shared-slice-read-line-3 : tie.Need-shared-slice-read-line-3 Inv-loop μ-loop
-shared-slice-read-line-3 c = search needs
-
-line-requires : tie.Need-line-requires Inv-loop μ-loop
-line-requires c κs =
-    let s = c .before .before .before .before .before .before .before .before .before in
-    let l = c .before .before .before .before .before .loop in
-    let p = s .pre in
-    (p .5, p .2 .low (l .j) (omega arith), rw (filled-old (l .inv .2) (l .j) 0 (omega arith)) (p .4 .low (l .j) (omega arith)), p .3 .low (l .j) (omega arith), p .3 .low (length (s .args .out .now) + l .j) (omega arith))
+word-requires : tie.Need-word-requires Inv-loop μ-loop
+word-requires c κs = search needs
 
 mul-out : tie.Need-mul-out Inv-loop μ-loop
 mul-out c = search needs
@@ -70,14 +56,14 @@ loop-less c = search needs
 
 loop-again : tie.Need-loop-again Inv-loop μ-loop
 loop-again c =
-    let a = c .before .before .before .before .before .before .before .before .before .before .args in
-    let l = c .before .before .before .before .before .before .loop in
+    let a = c .before .before .before .before .before .before .before .before .args in
+    let l = c .before .before .before .before .loop in
     let n = length (a .out .now) in
-    let f = throughAll n (a .challenge) (a .t .now) (a .block .now) (a .out .now) in
+    let f = throughAll n (elem (a .challenge)) (a .t .now) (a .block .now) (a .out .now) in
+    let old = filled-old (l .inv .2) (l .j) 0 (omega arith) in
     let v =
-    c .line .ensures
-    ∙ ap (λ x. word (through (el (a .challenge)) (el (getD (a .t .now) (l .j) 0)) (el x) (el (getD (a .block .now) (l .j) 0)) (el (getD (a .block .now) (n + l .j) 0))))
-    (filled-old (l .inv .2) (l .j) 0 (omega arith))
+    c .word .ensures ∙ c .before .line-at .ensures
+    ∙ (λ k. word (through (elem (a .challenge)) (el (getD (a .t .now) (l .j) 0)) (el (old k)) (el (getD (a .block .now) (l .j) 0)) (el (getD (a .block .now) (l .inv .1 k + l .j) 0))))
     ∙ sym (getD-rows n f (l .j) (omega arith)) in
     let p = filled-turn 0 (omega arith) (length-rows n f) (l .inv .2) v in
     (omega arith, filled-length p, p)
@@ -95,16 +81,8 @@ draw-spec =
     Inv-loop
     μ-loop
     loop-holds
-    mul-line
-    shared-slice-read-line
-    mul-line-2
-    slice-read-line
-    mul-line-3
-    shared-slice-read-line-2
-    add-line
-    mul-line-4
-    shared-slice-read-line-3
-    line-requires
+    line-at-requires
+    word-requires
     mul-out
     slice-write-out
     add-j

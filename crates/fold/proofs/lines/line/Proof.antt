@@ -1,5 +1,5 @@
 use Rattle.fold.proofs.Straight.{line-word}
-use Rattle.fold.proofs.Elements.{low-word}
+use Rattle.residue.specs.ResidueLaws.{is-low}
 use borrow.Author.Needs.{needs}
 use Rattle.fold.proofs.lines.line.Statement.{statement}
 use Rattle.fold.proofs.lines.line.Tie as tie
@@ -11,15 +11,15 @@ minus-requires-2 : tie.Need-minus-requires-2
 minus-requires-2 c κs = search needs
 
 times-requires : tie.Need-times-requires
-times-requires c κs = (search needs, low-word _ (c .minus2 .ensures))
+times-requires c κs = (search needs, is-low _ (c .minus2 .ensures))
 
 plus-product-requires : tie.Need-plus-product-requires
-plus-product-requires c κs = (search needs, low-word _ (c .before .before .minus .ensures), low-word _ (c .times .ensures))
+plus-product-requires c κs = (search needs, is-low _ (c .before .before .minus .ensures), is-low _ (c .times .ensures))
 
 returns : tie.Need-returns
 returns c =
     let a = c .before .before .before .before .args in
-    line-word (a .a) (a .t) (a .s) (a .u) (a .v) (c .before .before .before .minus .ensures) (c .before .before .minus2 .ensures) (c .before .times .ensures) (c .plus-product .ensures)
+    line-word (a .a .0) (a .t .0) (a .s .0) (a .u .0) (a .v .0) (c .before .before .before .minus .ensures) (c .before .before .minus2 .ensures) (c .before .times .ensures) (c .plus-product .ensures)
 
 pub line-spec : {M : Type 1} → statement M
 line-spec =

@@ -1,4 +1,3 @@
--- `open::judge::inputs_ok` meets its contract. Assumes nothing.
 use mathlib.Core.Path.{sym}
 use borrow.Author.Tests.{eq-eqb, ne-eqb}
 use Rattle.open.specs.Writing.{inputLengths}

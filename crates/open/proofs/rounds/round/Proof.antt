@@ -1,5 +1,4 @@
--- `open::rounds::round` meets its contract. Assumes nothing.
-use Rattle.open.proofs.Takes.{goes-on, ran}
+use Rattle.open.proofs.OneRound.{block-input, round-result}
 use borrow.Author.Needs.{needs}
 use Rattle.open.proofs.rounds.round.Statement.{statement}
 use Rattle.open.proofs.rounds.round.Tie as tie
@@ -11,7 +10,7 @@ take-challenge-requires : tie.Need-take-challenge-requires
 take-challenge-requires c κs = search needs
 
 give-block-requires : tie.Need-give-block-requires
-give-block-requires c κs = let s = c .before .before .before .before .before .before .before .before .before .before .before .before .before .before .before .before .before .before in let a = s .args in let k = c .before .before .before .before .take-challenge in goes-on (a .i) (a .w) _ _ (a .work .now) (s .pre .above) _ _ (k .ensures) (a .depth) (a .g .now) (a .t .now) (a .t2 .now) _ _ _ _ (s .pre) (c .before .before .before .before .before .before .before .before .give-round .kept .1 .1 .1 .1 .0)
+give-block-requires c κs = let s = c .before .before .before .before .before .before .before .before .before .before .before .before .before .before .before .before .before .before in let a = s .args in block-input (a .depth) (a .i) (a .w) (a .g .now) (a .t .now) (a .t2 .now) _ _ _ (a .work .now) (s .pre) _ _ _ _ (c .before .before .before .before .take-challenge .ensures) _ (c .before .before .before .before .before .before .before .before .give-round .kept .1 .1 .1 .1 .0)
 
 same-length : tie.Need-same-length
 same-length c = search needs
@@ -20,7 +19,7 @@ same-length-2 : tie.Need-same-length-2
 same-length-2 c = search needs
 
 returns : tie.Need-returns
-returns c = let s = c .before .before .before .before .before .before .before .before .before .before .before .before .before .before .before .before .before .before .before .before .before in let a = s .args in let k = c .before .before .before .before .before .before .before .take-challenge in ran (a .i) (a .w) (a .z .now) (a .r .now) (a .work .now) (s .pre .above) _ _ (k .ensures) (a .depth) (a .g .now) (a .t .now) (a .t2 .now) (a .opening .now) _ _ (c .before .before .before .before .before .before .before .before .before .before .before .give-round .ensures) (c .before .before .give-block .ensures)
+returns c = let a = c .before .before .before .before .before .before .before .before .before .before .before .before .before .before .before .before .before .before .before .before .before .args in round-result (a .depth) (a .i) (a .w) (a .g .now) (a .t .now) (a .t2 .now) (a .z .now) (a .r .now) (a .work .now) _ _ (c .before .before .before .before .before .before .before .take-challenge .ensures) (a .opening .now) _ _ (c .before .before .before .before .before .before .before .before .before .before .before .give-round .ensures) (c .before .before .give-block .ensures)
 
 pub round-spec : {M : Type 1} → statement M
 round-spec =

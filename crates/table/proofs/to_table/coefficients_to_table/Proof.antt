@@ -3,7 +3,7 @@ use mathlib.Core.Path.{_≡_, sym, ap, _∙_}
 use lib.ListN.{length}
 use borrow.Author.Needs.{needs}
 use Rattle.job.specs.Outcome.{done, outcome}
-use Rattle.residue.specs.Scans.{all-below}
+use Rattle.residue.specs.ScanLaws.{all-below}
 use Rattle.table.specs.Jobs.{judgeMessage}
 use Rattle.table.specs.Judged.{message-passed}
 use Rattle.table.proofs.Finding.{tables-done, tables-refused}

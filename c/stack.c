@@ -1,0 +1,88 @@
+/* How much stack the functions take: each one runs at depth 16 and rate 16 on a painted stack of its own. Prints the bytes that were
+ * touched beyond those of a call that does nothing, and exits with 1 when some function takes LIMIT or more, or does not answer 0. */
+#define _DEFAULT_SOURCE
+#include <stdio.h>
+#include <stdlib.h>
+#include <string.h>
+#include <ucontext.h>
+
+#include "tvarchula.h"
+
+enum { DEPTH = 16, RATE = 16, STACK = 1 << 18, PAINT = 0xa5, LIMIT = 4096 };
+
+#define MESSAGE TV_MESSAGE_LEN(DEPTH)
+#define BLOCK TV_BLOCK_LEN(DEPTH, RATE)
+#define HALF TV_BLOCK_LEN(DEPTH - 1, RATE)
+#define DIAGONALS TV_DIAGONALS_LEN(DEPTH, RATE)
+#define OPENING TV_OPENING_LEN(DEPTH, RATE)
+
+static uint32_t g[RATE], t[DIAGONALS], t2[DIAGONALS], message[MESSAGE], block[BLOCK], z[DEPTH], r[DEPTH], queries[TV_MAX_QUERIES];
+static uint32_t opening[OPENING], work[BLOCK], decoded[MESSAGE], folded[HALF], value;
+static int32_t table[MESSAGE];
+static uint32_t number;
+
+#define CODE DEPTH, RATE, g, RATE, t, DIAGONALS, t2, DIAGONALS
+
+static void nothing(void) { number = 0; }
+static void read_clearance(void) { number = tv_read_clearance(5).number; }
+static void to_coefficients(void) { number = tv_table_to_coefficients(table, MESSAGE, message, MESSAGE).number; }
+static void to_table(void) { number = tv_coefficients_to_table(message, MESSAGE, table, MESSAGE, work, MESSAGE).number; }
+static void evaluate(void) { number = tv_evaluate(DEPTH, message, MESSAGE, z, DEPTH, &value).number; }
+static void encode(void) { number = tv_encode(CODE, message, MESSAGE, block, BLOCK).number; }
+static void decode(void) { number = tv_decode(CODE, block, BLOCK, decoded, MESSAGE, work, BLOCK).number; }
+static void fold(void) { number = tv_fold(DEPTH, RATE, t, HALF, t2, HALF, block, BLOCK, 7, folded, HALF).number; }
+
+static void write_opening(void)
+{
+    number = tv_write_opening(CODE, message, MESSAGE, z, DEPTH, r, DEPTH, opening, OPENING, work, 2 * MESSAGE, &value).number;
+}
+
+static void verify_opening(void)
+{
+    number = tv_verify_opening(CODE, block, BLOCK, z, DEPTH, value, r, DEPTH, queries, TV_MAX_QUERIES, opening, OPENING).number;
+}
+
+/* Bytes of the stack that a call touches. It grows downwards. */
+static size_t touched(void (*call)(void))
+{
+    static unsigned char stack[STACK];
+    static ucontext_t here, there;
+    memset(stack, PAINT, STACK);
+    getcontext(&there);
+    there.uc_stack.ss_sp = stack;
+    there.uc_stack.ss_size = STACK;
+    there.uc_link = &here;
+    makecontext(&there, call, 0);
+    swapcontext(&here, &there);
+    size_t untouched = 0;
+    while (untouched < STACK && stack[untouched] == PAINT)
+        untouched++;
+    return STACK - untouched;
+}
+
+int main(void)
+{
+    for (size_t i = 0; i < DIAGONALS; i++)
+        t[i] = (uint32_t)i, t2[i] = (uint32_t)i + 1;
+    for (size_t i = 0; i < MESSAGE; i++)
+        table[i] = (int32_t)i;
+    for (uint32_t i = 0; i < DEPTH; i++)
+        g[i] = z[i] = r[i] = i + 1;
+    for (uint32_t i = 0; i < TV_MAX_QUERIES; i++)
+        queries[i] = i * 2047;
+    static const struct {
+        const char *name;
+        void (*call)(void);
+    } calls[] = {{"tv_read_clearance", read_clearance}, {"tv_table_to_coefficients", to_coefficients},
+                 {"tv_coefficients_to_table", to_table}, {"tv_evaluate", evaluate}, {"tv_encode", encode}, {"tv_decode", decode},
+                 {"tv_fold", fold}, {"tv_write_opening", write_opening}, {"tv_verify_opening", verify_opening}};
+    const size_t least = touched(nothing);
+    int wrong = 0;
+    for (size_t i = 0; i < sizeof calls / sizeof *calls; i++) {
+        number = 99;
+        const size_t bytes = touched(calls[i].call) - least;
+        wrong += number != TV_DONE || bytes >= LIMIT;
+        printf("%-26s%5zu bytes of stack, answers %u\n", calls[i].name, bytes, (unsigned)number);
+    }
+    return wrong > 0;
+}

@@ -1,0 +1,51 @@
+/* The header from C++: the lengths as constants, the numbers, and empty vectors. */
+#include "tvarchula.h"
+
+#include <cstdio>
+#include <cstring>
+#include <vector>
+
+static_assert(TV_MESSAGE_LEN(16) == 65536, "words of a message");
+static_assert(TV_BLOCK_LEN(16, 16) == 1048576, "words of a block");
+static_assert(TV_DIAGONALS_LEN(1, 2) == 2 && TV_DIAGONALS_LEN(0, 2) == 0, "words of a diagonal");
+static_assert(TV_OPENING_LEN(16, 16) == 1048609 && TV_OPENING_LEN(0, 2) == 1, "words of an opening");
+static_assert(TV_MAX_TABLE_LEN == TV_MESSAGE_LEN(TV_MAX_DEPTH), "the longest table");
+
+/* data() of an empty vector may be null; a slice's pointer may not. */
+static const uint32_t *at(const std::vector<uint32_t> &words)
+{
+    static const uint32_t nothing = 0;
+    return words.empty() ? &nothing : words.data();
+}
+
+#define SLICE(words) at(words), (words).size()
+
+int main()
+{
+    /* Depth 0: no diagonals, no point, no challenges, no queries. */
+    const std::vector<uint32_t> g = {1, 1}, none, message = {9};
+    std::vector<uint32_t> block(TV_BLOCK_LEN(0, 2)), opening(TV_OPENING_LEN(0, 2)), work(2 * TV_MESSAGE_LEN(0));
+    uint32_t value = 0;
+    uint32_t number = tv_encode(0, 2, SLICE(g), SLICE(none), SLICE(none), SLICE(message), block.data(), block.size()).number;
+    if (number != TV_DONE || block != std::vector<uint32_t>{9, 9})
+        return 1;
+    number = tv_write_opening(0, 2, SLICE(g), SLICE(none), SLICE(none), SLICE(message), SLICE(none), SLICE(none), opening.data(),
+                              opening.size(), work.data(), work.size(), &value)
+                 .number;
+    if (number != TV_DONE || value != 9)
+        return 1;
+    for (uint32_t y = 8; y <= 9; y++) {
+        const tv_answer verdict = tv_verify_opening(0, 2, SLICE(g), SLICE(none), SLICE(none), SLICE(block), SLICE(none), y, SLICE(none),
+                                                    SLICE(none), SLICE(opening));
+        std::printf("%u claimed: %s\n", static_cast<unsigned>(y), tv_number_text(verdict.number));
+        if (verdict.number != (y == 9 ? TV_ACCEPTED : TV_FAILED_FINAL))
+            return 1;
+    }
+    /* Every number that is listed has a text of its own, and no other number is taken for success. */
+    const uint32_t listed[] = {0, 1, 2, 3, 4, 5, 6, 7, 8, 9, 20, 21, 22, 23, 24};
+    for (const uint32_t a : listed)
+        for (const uint32_t b : listed)
+            if (a < b && std::strcmp(tv_number_text(a), tv_number_text(b)) == 0)
+                return 1;
+    return std::strcmp(tv_number_text(24), tv_number_text(10)) == 0 ? 0 : 1;
+}

@@ -1,0 +1,9 @@
+-- The inverses of T' - T in every c-th place.
+--     Inversion        what is lent, and THE INVERSES
+--     Strides          where every c-th place stands
+--     InversionLaws    what holds of differences of diagonals that differ, and of lists of words by their places
+--     Chains           what the inner loops hold
+pub mod Inversion
+pub mod Strides
+pub mod InversionLaws
+pub mod Chains

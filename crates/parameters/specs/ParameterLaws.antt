@@ -1,0 +1,99 @@
+-- What the tests of row and diagonals say where they hold. Assumes nothing.
+use mathlib.Core.Path.{_≡_, refl, sym, ap, _∙_}
+use mathlib.Core.Bool.{Bool, true, false, _&&_}
+use mathlib.Core.List.{List}
+use Prim.Native.Nat.{ℕ}
+use lib.Dec.{eqb}
+use lib.ListN.{length}
+use borrow.Author.Tests.{eqb-true}
+use Rattle.algebra.specs.Tests.{and-both}
+use Rattle.algebra.specs.WordLists.{Low}
+use Rattle.job.specs.Outcome.{Outcome, done, require, _⨾_}
+use Rattle.job.specs.OutcomeLaws.{require-done, held}
+use Rattle.job.specs.Limits.{depthOk, rateOk, diagonalsSize}
+use Rattle.residue.specs.Residues.{P}
+use Rattle.residue.specs.Scans.{allBelow, noneZero, allDiffer}
+use Rattle.residue.specs.ScanLaws.{all-below}
+use Rattle.parameters.specs.Lent.{Coding}
+use Rattle.parameters.specs.LentLaws.{coding}
+use Rattle.parameters.specs.Parameters.{limits, inLimits, rowLengths, rowWords, legalRow, judgeRow}
+
+-- the chain as it is judged, where a later test is only asked if the earlier ones hold
+pub judged : (d c : ℕ) (g t t' : List ℕ) (l w : Bool) {shallow fair row apart : Bool} {six five four three two out : Outcome (Unit {0})}
+    → shallow ≡ depthOk d → fair ≡ rateOk c → row ≡ (w && noneZero g) → apart ≡ (row && allDiffer t t')
+    → six ≡ require apart 6 ⨾ done tt → five ≡ require row 5 ⨾ six → four ≡ require w 4 ⨾ five → three ≡ require l 3 ⨾ four
+    → two ≡ require fair 2 ⨾ three → out ≡ require shallow 1 ⨾ two → out ≡ judgeRow d c g t t' l w
+judged d c g t t' l w e f h i p q r s u v =
+    v ∙ (λ k. require (e k) 1 ⨾ u k) ∙ (λ k. require (depthOk d) 1 ⨾ require (f k) 2 ⨾ s k)
+    ∙ (λ k. require (depthOk d) 1 ⨾ require (rateOk c) 2 ⨾ require l 3 ⨾ r k)
+    ∙ (λ k. require (depthOk d) 1 ⨾ require (rateOk c) 2 ⨾ require l 3 ⨾ require w 4 ⨾ q k)
+    ∙ (λ k. require (depthOk d) 1 ⨾ require (rateOk c) 2 ⨾ require l 3 ⨾ require w 4 ⨾ require (h k) 5 ⨾ p k)
+    ∙ (λ k. require (depthOk d) 1 ⨾ require (rateOk c) 2 ⨾ require l 3 ⨾ require w 4 ⨾ require (w && noneZero g) 5 ⨾ require ((i ∙ ap (λ b. b && allDiffer t t') h) k) 6 ⨾ done tt)
+    ∙ by (depthOk d) (rateOk c) l w (noneZero g) (allDiffer t t')
+  where
+    by : (a b l w n x : Bool)
+        → require a 1 ⨾ require b 2 ⨾ require l 3 ⨾ require w 4 ⨾ require (w && n) 5 ⨾ require ((w && n) && x) 6 ⨾ done tt
+        ≡ (require a 1 ⨾ require b 2) ⨾ require l 3 ⨾ require w 4 ⨾ require n 5 ⨾ require x 6
+    by false b l w n x = refl
+    by true false l w n x = refl
+    by true true false w n x = refl
+    by true true true false n x = refl
+    by true true true true false x = refl
+    by true true true true true false = refl
+    by true true true true true true = refl
+
+-- a test that is only asked within the limits, and one that is only asked where the lengths are right
+pub judge-guarded : (d c : ℕ) (g t t' : List ℕ) (l w : Bool) → judgeRow d c g t t' (inLimits d c && l) ((inLimits d c && l) && w) ≡ judgeRow d c g t t' l w
+judge-guarded d c g t t' l w = by (depthOk d) (rateOk c) l
+  where
+    by : (a b l : Bool)
+        → (require a 1 ⨾ require b 2) ⨾ require ((a && b) && l) 3 ⨾ require (((a && b) && l) && w) 4 ⨾ legalRow g t t'
+        ≡ (require a 1 ⨾ require b 2) ⨾ require l 3 ⨾ require w 4 ⨾ legalRow g t t'
+    by true true true = refl
+    by true true false = refl
+    by true false l = refl
+    by false b l = refl
+
+-- so a job is judged by flags that later tests are guarded with
+pub judged-by : (d c : ℕ) (g t t' : List ℕ) (L W : Bool) {l w : Bool} {out : Outcome (Unit {0})}
+    → l ≡ (inLimits d c && L) → w ≡ (l && W) → out ≡ judgeRow d c g t t' l w → out ≡ judgeRow d c g t t' L W
+judged-by d c g t t' L W e f h =
+    h ∙ (λ i. judgeRow d c g t t' (e i) ((f ∙ ap (λ b. b && W) e) i)) ∙ judge-guarded d c g t t' L W
+
+pub within : (d c : ℕ) → done tt ≡ limits d c → (depthOk d ≡ true) × (rateOk c ≡ true)
+within d c e =
+    let a = require-done (depthOk d) 1 (sym e) in
+    (a .0, held (rateOk c) 2 (a .1))
+
+-- what the tests say
+pub record RowLengths (d c g t t' : ℕ) : Type 0 where
+  pub row : g ≡ c
+  pub first : t ≡ diagonalsSize c d
+  pub second : t' ≡ diagonalsSize c d
+
+pub row-lengths : (d c g t t' : ℕ) → rowLengths d c g t t' ≡ true → RowLengths d c g t t'
+unfolding rowLengths
+row-lengths d c g t t' e =
+    let a = and-both (eqb g c) _ e in
+    let b = and-both (eqb t (diagonalsSize c d)) _ (a .1) in
+    record { row = eqb-true _ _ (a .0); first = eqb-true _ _ (b .0); second = eqb-true _ _ (b .1) }
+
+pub record RowWords (g t t' : List ℕ) : Type 0 where
+  pub row : Low P g
+  pub first : Low P t
+  pub second : Low P t'
+
+pub row-words : (g t t' : List ℕ) → rowWords g t t' ≡ true → RowWords g t t'
+unfolding rowWords
+row-words g t t' e =
+    let a = and-both (allBelow g) _ e in
+    let b = and-both (allBelow t) _ (a .1) in
+    record { row = all-below g (a .0); first = all-below t (b .0); second = all-below t' (b .1) }
+
+-- where no refusal is due, row and diagonals make a code
+pub lent-coding : (d c : ℕ) (g t t' : List ℕ) → rowLengths d c (length g) (length t) (length t') ≡ true → rowWords g t t' ≡ true → legalRow g t t' ≡ done tt → Coding d g t t'
+lent-coding d c g t t' p q r =
+    let l = row-lengths d c (length g) (length t) (length t') p in
+    let w = row-words g t t' q in
+    let n = held (allDiffer t t') 6 (require-done (noneZero g) 5 r .1) in
+    coding d g t t' (l .first ∙ ap (λ k. diagonalsSize k d) (sym (l .row))) (l .second ∙ ap (λ k. diagonalsSize k d) (sym (l .row))) (w .row) (w .first) (w .second) n

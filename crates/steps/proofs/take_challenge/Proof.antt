@@ -1,0 +1,76 @@
+use mathlib.Core.Path.{ap₂, _∙_}
+use native.Mathlib.Omega.{arith}
+use lib.ListN.{length-take}
+use Rattle.polynomial.specs.Eq.{factor}
+use Rattle.residue.specs.Residues.{el, elem, word, _⊠_}
+use Rattle.steps.proofs.Takes.{whole-within, fold-input, challenge-taken}
+use borrow.Author.Needs.{needs}
+use Rattle.steps.proofs.take_challenge.Statement.{statement}
+use Rattle.steps.proofs.take_challenge.Tie as tie
+
+add-message-len : tie.Need-add-message-len
+add-message-len c = search needs
+
+message-len-requires : tie.Need-message-len-requires
+message-len-requires c κs = search needs
+
+mul-new : tie.Need-mul-new
+mul-new c = search needs
+
+shared-slice-read-new : tie.Need-shared-slice-read-new
+shared-slice-read-new c = search needs
+
+new-requires : tie.Need-new-requires
+new-requires c κs = let s = c .before .before .before .before .before in s .pre .low' .low _ (s .pre .challenge)
+
+slice-relend-prefix-fold : tie.Need-slice-relend-prefix-fold
+slice-relend-prefix-fold c = let s = c .before .before .before .before .before .before in let a = s .args in whole-within (a .i) (a .w) (a .z .now) (a .r .now) (a .work .now) (s .pre) _ _ (c .before .before .message-len .ensures) (c .new .ensures)
+
+slice-aggregate-fold : tie.Need-slice-aggregate-fold
+slice-aggregate-fold c = let s = c .before .before .before .before .before .before .before in let a = s .args in simp length-take (omega (arith, whole-within (a .i) (a .w) (a .z .now) (a .r .now) (a .work .now) (s .pre) _ _ (c .before .before .before .message-len .ensures) (c .before .new .ensures)))
+
+fold-requires : tie.Need-fold-requires
+fold-requires c κs = let s = c .before .before .before .before .before .before .before in let a = s .args in fold-input (a .i) (a .w) (a .z .now) (a .r .now) (a .work .now) (s .pre) _ _ (c .before .before .before .message-len .ensures) (c .before .new .ensures)
+
+mul-new-2 : tie.Need-mul-new-2
+mul-new-2 c = search needs
+
+shared-slice-read-new-2 : tie.Need-shared-slice-read-new-2
+shared-slice-read-new-2 c = search needs
+
+new-requires-2 : tie.Need-new-requires-2
+new-requires-2 c κs = let s = c .before .before .before .before .before .before .before .before .before .before .before in s .pre .low .low _ (s .pre .point)
+
+weigh-requires : tie.Need-weigh-requires
+weigh-requires c κs = let s = c .before .before .before .before .before .before .before .before .before .before .before .before in (s .pre .weight, rw (c .new2 .ensures) (s .pre .low .low _ (s .pre .point)), rw (c .before .before .before .before .before .before .new .ensures) (s .pre .low' .low _ (s .pre .challenge)))
+
+same-length : tie.Need-same-length
+same-length c = search needs
+
+returns : tie.Need-returns
+returns c =
+    let s = c .before .before .before .before .before .before .before .before .before .before .before .before .before in
+    let a = s .args in
+    record {
+      weight = c .weigh .ensures ∙ ap₂ (λ z x. word (elem (a .w) ⊠ factor (el z) (el x))) (c .before .new2 .ensures) (c .before .before .before .before .before .before .before .new .ensures);
+      left = challenge-taken (a .i) (a .w) (a .z .now) (a .r .now) (a .work .now) (s .pre) _ _ (c .before .before .before .before .before .before .before .before .before .message-len .ensures) (c .before .before .before .before .before .before .before .new .ensures) _ (c .before .before .before .before .before .fold .ensures);
+    }
+
+pub take-challenge-spec : {M : Type 1} → statement M
+take-challenge-spec =
+    tie.close
+    (tie.spec
+    add-message-len
+    message-len-requires
+    mul-new
+    shared-slice-read-new
+    new-requires
+    slice-relend-prefix-fold
+    slice-aggregate-fold
+    fold-requires
+    mul-new-2
+    shared-slice-read-new-2
+    new-requires-2
+    weigh-requires
+    same-length
+    returns)

@@ -1,0 +1,20 @@
+// What is left of a message, folded by a challenge.
+ghost use mathlib.Core.Path.{_≡_};
+ghost use Rattle.residue.specs.Residues.{elem};
+ghost use Rattle.steps.specs.Steps.{FoldInput, foldedFront};
+use residue::Residue;
+use residue::entry;
+
+// The front half of m becomes left + a right.
+pub fn fold(a: Residue, m: &mut [u32])
+    requires { ⌜ FoldInput a (now m) ⌝ }
+    ensures { λ _. ⌜ now (m .exit) ≡ foldedFront (elem a) (now (m .entry)) ⌝ }
+{
+    let half = m.len() / 2;
+    let mut j = 0;
+    while j < half {
+        let k = half + j;
+        m[j] = entry::plus_scaled(m[j], a, m[k]);
+        j += 1;
+    }
+}

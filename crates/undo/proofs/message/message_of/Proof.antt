@@ -1,0 +1,70 @@
+use Rattle.residue.specs.Residues.{el, word, inv}
+use mathlib.Core.Path.{ap, _∙_}
+use Prim.Native.Nat.{_+_, _-_}
+use native.Mathlib.Omega.{arith}
+use lib.ListN.{length, take, length-take}
+use lib.Seq.{length-front}
+use Rattle.undo.proofs.Messages.{undoing, message-is}
+use Rattle.undo.proofs.Preparing.{some, few, room}
+use Rattle.undo.proofs.message.message_of.Statement.{statement}
+use Rattle.undo.proofs.message.message_of.Tie as tie
+
+prepare-requires : tie.Need-prepare-requires
+prepare-requires c κs = c .before .before .before .before .before .before .pre
+
+message-len-requires : tie.Need-message-len-requires
+message-len-requires c κs = c .before .before .before .before .before .before .before .before .before .pre .depth
+
+sub-e : tie.Need-sub-e
+sub-e c =
+    let s = c .before .before .before .before .before .before .before .before .before .before in let a = s .args in some (a .depth) (a .g .now) (a .t .now) (a .t2 .now) (a .block .now) (a .work .now) (s .pre) (c .message-len .result) (c .message-len .ensures)
+
+add-e : tie.Need-add-e
+add-e c =
+    let s = c .before .before .before .before .before .before .before .before .before .before in let a = s .args in omega (arith, few (a .depth) (a .g .now) (a .t .now) (a .t2 .now) (a .block .now) (a .work .now) (s .pre) (c .message-len .result) (c .message-len .ensures))
+
+shared-slice-read-new : tie.Need-shared-slice-read-new
+shared-slice-read-new c = let s = c .before .before .before .before .before .before .before .before .before .before .before in omega (arith, s .pre .narrow)
+
+new-requires : tie.Need-new-requires
+new-requires c κs = let s = c .before .before .before .before .before .before .before .before .before .before .before in s .pre .coding .row .low 0 (omega (arith, s .pre .narrow))
+
+unit-inverse-requires : tie.Need-unit-inverse-requires
+unit-inverse-requires c κs = let s = c .before .before .before .before .before .before .before .before .before .before .before .before in (rw (c .new .ensures) (s .pre .coding .row .low 0 (omega (arith, s .pre .narrow))), rw (c .new .ensures) (s .pre .unit))
+
+slice-relend-prefix-undo : tie.Need-slice-relend-prefix-undo
+slice-relend-prefix-undo c =
+    let s = c .before .before .before .before .before .before .before .before .before .before .before .before .before in let a = s .args in omega (arith, some (a .depth) (a .g .now) (a .t .now) (a .t2 .now) (a .block .now) (a .work .now) (s .pre) (c .before .before .before .message-len .result) (c .before .before .before .message-len .ensures), room (a .depth) (a .g .now) (a .t .now) (a .t2 .now) (a .block .now) (a .work .now) (s .pre) (c .before .before .before .message-len .result) (c .before .before .before .message-len .ensures), c .before .before .before .before .before .before .prepare .kept .1 .1 .1 .1 .1 .0)
+
+slice-aggregate-undo : tie.Need-slice-aggregate-undo
+slice-aggregate-undo c =
+    let s = c .before .before .before .before .before .before .before .before .before .before .before .before .before .before in let a = s .args in simp length-take (omega (arith, some (a .depth) (a .g .now) (a .t .now) (a .t2 .now) (a .block .now) (a .work .now) (s .pre) (c .before .before .before .before .message-len .result) (c .before .before .before .before .message-len .ensures), room (a .depth) (a .g .now) (a .t .now) (a .t2 .now) (a .block .now) (a .work .now) (s .pre) (c .before .before .before .before .message-len .result) (c .before .before .before .before .message-len .ensures), c .before .before .before .before .before .before .before .prepare .kept .1 .1 .1 .1 .1 .0))
+
+undo-requires : tie.Need-undo-requires
+undo-requires c κs =
+    let s = c .before .before .before .before .before .before .before .before .before .before .before .before .before .before in let a = s .args in let v = c .before .before .before .before .before .before .before .prepare .last .1 .1 .1 .1 .1 .0 in let n = c .before .before .before .before .message-len .result in let en = c .before .before .before .before .message-len .ensures in let w = take (n + (n - 1)) v in let e = ap (λ k. take (k + (k - 1)) v) en ∙ c .before .before .before .before .before .before .before .prepare .ensures in undoing (a .depth) (a .g .now) (a .t .now) (a .t2 .now) (a .block .now) (length (a .work .now)) (s .pre) w e n (c .before .unit-inverse .result) en (c .before .unit-inverse .ensures ∙ (λ k. word (inv (el (c .before .before .new .ensures k)))))
+
+same-length : tie.Need-same-length
+same-length c =
+    let v = c .before .before .before .before .before .before .before .before .before .before .prepare .last .1 .1 .1 .1 .1 .0 in let n = c .before .before .before .before .before .before .before .message-len .result in length-front v (c .before .before .undo .last .1 .1 .1 .1 .1 .0) (n + (n - 1)) (c .before .before .undo .kept .1 .1 .1 .1 .1 .0) ∙ c .before .before .before .before .before .before .before .before .before .before .prepare .kept .1 .1 .1 .1 .1 .0
+
+returns : tie.Need-returns
+returns c =
+    let s = c .before .before .before .before .before .before .before .before .before .before .before .before .before .before .before .before .before in let a = s .args in let v = c .before .before .before .before .before .before .before .before .before .before .prepare .last .1 .1 .1 .1 .1 .0 in let n = c .before .before .before .before .before .before .before .message-len .result in let en = c .before .before .before .before .before .before .before .message-len .ensures in let w = take (n + (n - 1)) v in let e = ap (λ k. take (k + (k - 1)) v) en ∙ c .before .before .before .before .before .before .before .before .before .before .prepare .ensures in message-is (a .depth) (a .g .now) (a .t .now) (a .t2 .now) (a .block .now) (length (a .work .now)) (s .pre) w e n (c .before .before .before .before .unit-inverse .result) en (c .before .before .before .before .unit-inverse .ensures ∙ (λ k. word (inv (el (c .before .before .before .before .before .new .ensures k))))) _ _ (c .before .before .undo .kept .1 .1 .1 .1 .1 .0) (c .before .before .undo .ensures)
+
+pub message-of-spec : {M : Type 1} → statement M
+message-of-spec =
+    tie.close
+    (tie.spec
+    prepare-requires
+    message-len-requires
+    sub-e
+    add-e
+    shared-slice-read-new
+    new-requires
+    unit-inverse-requires
+    slice-relend-prefix-undo
+    slice-aggregate-undo
+    undo-requires
+    same-length
+    returns)

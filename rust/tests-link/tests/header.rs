@@ -1,0 +1,72 @@
+//! The constants of `include/tvarchula.h` and those of `tvarchula-sys` are the same.
+
+use std::collections::BTreeMap;
+use std::fs::read_to_string;
+use std::path::{Path, PathBuf};
+
+fn repository() -> PathBuf {
+    Path::new(env!("CARGO_MANIFEST_DIR")).join("../..")
+}
+
+fn text(name: &str) -> String {
+    let path = repository().join(name);
+    read_to_string(&path).unwrap_or_else(|error| panic!("{}: {error}", path.display()))
+}
+
+/// A number as C or Rust writes it.
+fn number(word: &str) -> Option<i64> {
+    let digits = word.trim_end_matches('u').replace('_', "");
+    digits.parse().ok()
+}
+
+/// `#define TV_NAME number`, and nothing else but a comment.
+fn of_header() -> BTreeMap<String, i64> {
+    let header = text("include/tvarchula.h");
+    let constant = |line: &str| {
+        let (code, _) = line.split_once("/*").unwrap_or((line, ""));
+        let words: Vec<&str> = code.split_whitespace().collect();
+        let &["#define", name, word] = &words[..] else {
+            return None;
+        };
+        Some((name.to_owned(), number(word)?))
+    };
+    header.lines().filter_map(constant).collect()
+}
+
+/// `pub const TV_NAME: type = number;`
+fn of_rust() -> BTreeMap<String, i64> {
+    let source = text("rust/tvarchula-sys/src/numbers.rs");
+    let constant = |line: &str| {
+        let (name, rest) = line.strip_prefix("pub const ")?.split_once(':')?;
+        let (_, word) = rest.split_once('=')?;
+        let word = word.trim().trim_end_matches(';');
+        Some((name.to_owned(), number(word)?))
+    };
+    source.lines().filter_map(constant).collect()
+}
+
+#[test]
+fn constants() {
+    let mut header = of_header();
+    let part = |name: &str| header.get(name).expect(name).to_string();
+    let parts = ["MAJOR", "MINOR", "PATCH"].map(|name| part(&format!("TV_VERSION_{name}")));
+    assert_eq!(parts.join("."), tvarchula_sys::TV_VERSION);
+    header.retain(|name, _| !name.starts_with("TV_VERSION"));
+    assert!(header.len() >= 20, "{header:?}");
+    assert_eq!(header, of_rust());
+}
+
+/// Every crate that a caller uses, and the header, have one version.
+#[test]
+fn versions() {
+    let line = format!("version = \"{}\"", tvarchula_sys::TV_VERSION);
+    for name in ["tvarchula", "tvarchula-sys"] {
+        let manifest = text(&format!("rust/{name}/Cargo.toml"));
+        assert!(manifest.lines().any(|found| found == line), "{name}");
+    }
+    let string = format!("\"{}\"", tvarchula_sys::TV_VERSION);
+    let header = text("include/tvarchula.h");
+    let mut lines = header.lines();
+    let found = lines.find_map(|line| line.strip_prefix("#define TV_VERSION "));
+    assert_eq!(found, Some(&string[..]));
+}

@@ -1,0 +1,52 @@
+//! The constants of the header, by the same names.
+
+/// The modulus.
+pub const TV_MODULUS: u32 = 2_147_483_647;
+/// The largest depth.
+pub const TV_MAX_DEPTH: u32 = 16;
+/// The smallest rate.
+pub const TV_MIN_RATE: u32 = 2;
+/// The largest rate.
+pub const TV_MAX_RATE: u32 = 16;
+/// The longest query list.
+pub const TV_MAX_QUERIES: u32 = 256;
+/// The longest table.
+pub const TV_MAX_TABLE_LEN: u32 = 65_536;
+/// The largest clearance; the smallest is its negative.
+pub const TV_MAX_CLEARANCE: i32 = 1_073_741_823;
+
+/// A reading's kind: free.
+pub const TV_FREE: u32 = 1;
+/// A reading's kind: an overlap.
+pub const TV_OVERLAP: u32 = 2;
+
+/// The job is done.
+pub const TV_DONE: u32 = 0;
+/// The opening is accepted.
+pub const TV_ACCEPTED: u32 = 0;
+/// A depth, an upper level, or a length that tells the depth.
+pub const TV_REFUSED_DEPTH: u32 = 1;
+/// A rate.
+pub const TV_REFUSED_RATE: u32 = 2;
+/// The length of a slice, but for the query list.
+pub const TV_REFUSED_LENGTH: u32 = 3;
+/// A word of the modulus or more, but for the query list.
+pub const TV_REFUSED_WORD: u32 = 4;
+/// A zero in the base row.
+pub const TV_REFUSED_ROW: u32 = 5;
+/// Diagonals that are equal in some place.
+pub const TV_REFUSED_DIAGONALS: u32 = 6;
+/// The query list: its length, or a place that is too large.
+pub const TV_REFUSED_QUERIES: u32 = 7;
+/// A block that is no codeword.
+pub const TV_REFUSED_NO_CODEWORD: u32 = 8;
+/// A clearance out of range.
+pub const TV_REFUSED_CLEARANCE: u32 = 9;
+/// A sum check fails.
+pub const TV_FAILED_SUM: u32 = 20;
+/// The final check fails.
+pub const TV_FAILED_FINAL: u32 = 21;
+/// A base check fails.
+pub const TV_FAILED_BASE: u32 = 22;
+/// A fold check fails.
+pub const TV_FAILED_FOLD: u32 = 23;

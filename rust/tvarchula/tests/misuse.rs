@@ -1,0 +1,77 @@
+//! What users of other verification crates write: none of it accepts a value that is not shown.
+
+use std::error::Error;
+use tvarchula::*;
+
+const CODE: Code<'static> = Code::new(1, 2, &[1, 1], &[2, 3], &[2_147_483_645, 2_147_483_644]);
+const BLOCK: [u32; 4] = [19, 26, 2_147_483_638, 2_147_483_631];
+const OPENING: [u32; 6] = [2_147_483_637, 36, 152, 33, 33, 33];
+const CLAIM: Claim<'static> = Claim {
+    z: &[3],
+    y: 26,
+    r: &[4],
+    queries: &[0, 1],
+};
+
+fn verified(claim: &Claim<'_>) -> Result<(), VerifyError> {
+    verify_opening(&CODE, &BLOCK, claim, &OPENING)
+}
+
+/// As a cell writes it.
+fn entry(claim: &Claim<'_>) -> Result<Reading, Box<dyn Error>> {
+    verified(claim)?;
+    Ok(read_clearance(claim.y)?)
+}
+
+#[test]
+fn a_forged_value_is_an_error() {
+    assert!(verified(&CLAIM).is_ok());
+    assert_eq!(entry(&CLAIM).unwrap(), Reading::Free(26));
+    for y in [0, 25, 27, MODULUS - 1] {
+        let forged = Claim { y, ..CLAIM };
+        assert!(verified(&forged).is_err());
+        let rejected = VerifyError::Rejected(Failure::Sum(1));
+        assert_eq!(verified(&forged), Err(rejected));
+        assert_eq!(rejected.number(), 20);
+        let error = entry(&forged).unwrap_err();
+        assert!(error.to_string().starts_with("rejected: round 1"));
+    }
+}
+
+#[test]
+#[should_panic(expected = "Rejected(Sum(1))")]
+fn a_forged_value_is_not_expected() {
+    verified(&Claim { y: 27, ..CLAIM }).expect("the opening shows the value");
+}
+
+#[test]
+fn a_refusal_is_an_error_too() {
+    let refused = |claim| {
+        let error = verified(&claim).unwrap_err();
+        assert!(error.to_string().starts_with("refused: "));
+        error
+    };
+    let no_queries = Claim {
+        queries: &[],
+        ..CLAIM
+    };
+    let refusal = VerifyError::Refused(Refusal::Queries);
+    assert_eq!(refused(no_queries), refusal);
+    let no_residue = Claim {
+        y: MODULUS,
+        ..CLAIM
+    };
+    let refusal = VerifyError::Refused(Refusal::Word);
+    assert_eq!(refused(no_residue), refusal);
+    assert_eq!(refusal.number(), 4);
+}
+
+#[test]
+fn z_and_r_in_each_others_place() {
+    let swapped = Claim {
+        z: CLAIM.r,
+        r: CLAIM.z,
+        ..CLAIM
+    };
+    assert!(verified(&swapped).is_err());
+}
