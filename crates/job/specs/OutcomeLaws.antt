@@ -1,5 +1,5 @@
 -- Laws of outcomes: which refusal decides, what a buffer holds then, and that an outcome says which answer was given. Assumes nothing.
-use mathlib.Core.Path.{_≡_, refl, sym, ap, subst, _∙_}
+use mathlib.Core.Path.{_≡_, refl, sym, ap, ap₂, subst, _∙_}
 use mathlib.Core.Bool.{Bool, true, false, _&&_}
 use mathlib.Core.List.{List}
 use Prim.Native.Nat.{ℕ, zero, suc}
@@ -37,6 +37,17 @@ held false n e = absurd (let z : _≡_ {A = ℕ} 0 1 = cc in omega arith)
 pub require-done : {B : Type 0} (b : Bool) (n : ℕ) {next : Outcome B} {a : B} → require b n ⨾ next ≡ done a → (b ≡ true) × (next ≡ done a)
 require-done true n e = (refl, e)
 require-done false n e = absurd (let z : _≡_ {A = ℕ} 0 1 = cc in omega arith)
+
+-- a chain of requirements, link by link: each test by what it is equal to, and the last one
+pub link : {B : Type 0} (b : Bool) (n : ℕ) {a : Bool} {o next next' : Outcome B} → o ≡ require a n ⨾ next → a ≡ b → next ≡ next' → o ≡ require b n ⨾ next'
+link b n e t r = e ∙ ap₂ (λ b o. require b n ⨾ o) t r
+
+pub last : (b : Bool) (n : ℕ) {a : Bool} {o : Outcome (Unit {0})} → o ≡ require a n ⨾ done tt → a ≡ b → o ≡ require b n
+last b n {a} e t = e ∙ end a ∙ ap (λ b. require b n) t
+  where
+    end : (a : Bool) → require a n ⨾ done tt ≡ require a n
+    end true = refl
+    end false = refl
 
 -- an outcome is done where all are
 pub both : {A : Type 0} (o : Outcome (Unit {0})) {next : Outcome A} {a : A} → o ⨾ next ≡ done a → (o ≡ done tt) × (next ≡ done a)

@@ -35,7 +35,7 @@ use Rattle.job.specs.Limits.{rateOk}
 use Rattle.job.specs.declared.Refusal.the-variants.{NoCodeword}
 use Rattle.job.specs.declared.Answer.the-variants.{Done, Refused}
 use Rattle.residue.specs.Residues.{P, F, K, Element, el, word, inv}
-use Rattle.table.specs.Clearances.{residueOf, clearanceOf}
+use Rattle.clearance.specs.Clearances.{residueOf, clearanceOf}
 use Rattle.table.specs.Jobs.{MessageOf}
 use Rattle.table.specs.Depth.{exponentTo}
 use Rattle.parameters.specs.Lent.{lent, diagonal, codeword}

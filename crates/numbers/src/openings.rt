@@ -30,7 +30,7 @@ pub fn depth_0(y: u32, queries: &[u32]) -> Reply
     )
 }
 
-// The opening of 5 + 7 X at z with one query.
+// The opening of 5 + 7 X_0 at z with one query.
 pub fn depth_1(z: u32, y: u32, r: u32, query: u32, opened: &[u32]) -> Reply
     ensures { λ a. ⌜ a ≡ triple (numbersOf (verification 1 2 (1 ∷ 1 ∷ []) (2 ∷ 3 ∷ []) (2147483645 ∷ 2147483644 ∷ []) (19 ∷ 26 ∷ 2147483638 ∷ 2147483631 ∷ []) (z ∷ []) y (r ∷ []) (query ∷ []) (now (opened .entry)))) ⌝ }
 {
@@ -44,7 +44,7 @@ pub fn depth_1(z: u32, y: u32, r: u32, query: u32, opened: &[u32]) -> Reply
     opening::tv_verify_opening(1, 2, &g, &t, &t2, &block, &zs, y, &rs, &queries, opened)
 }
 
-// The opening of 1 + 2 X_1 + 3 X_2 + 4 X_1 X_2 at (5, 6) with one query.
+// The opening of 1 + 2 X_0 + 3 X_1 + 4 X_0 X_1 at (5, 6) with one query.
 pub fn depth_2(query: u32, opened: &[u32]) -> Reply
     ensures { λ a. ⌜ a ≡ triple (numbersOf (verification 2 2 (1 ∷ 1 ∷ []) (2 ∷ 3 ∷ 4 ∷ 5 ∷ 6 ∷ 7 ∷ []) (3 ∷ 4 ∷ 5 ∷ 6 ∷ 7 ∷ 8 ∷ []) (49 ∷ 82 ∷ 97 ∷ 142 ∷ 60 ∷ 97 ∷ 112 ∷ 161 ∷ []) (5 ∷ 6 ∷ []) 149 (7 ∷ 8 ∷ []) (query ∷ []) (now (opened .entry)))) ⌝ }
 {

@@ -16,9 +16,9 @@ use Rattle.polynomial.specs.declared.Evaluation.{Evaluation}
 use Rattle.polynomial.specs.declared.Evaluation.the-variants.{Value, Refused}
 
 -- what an answer says: the value's word, or the refusal's number
-abbrev pub outcome : Evaluation → Outcome ℕ
-outcome (Value v) = done v
-outcome (Refused r) = refused (number r)
+abbrev pub evaluationOutcome : Evaluation → Outcome ℕ
+evaluationOutcome (Value v) = done v
+evaluationOutcome (Refused r) = refused (number r)
 
 -- of the lengths of message and point
 unfoldable pub evaluateLengths : ℕ → ℕ → ℕ → Bool

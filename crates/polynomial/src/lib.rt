@@ -1,15 +1,15 @@
 // The value of the multilinear polynomial whose coefficients a message holds.
 ghost use mathlib.Core.Path.{_≡_};
-ghost use mathlib.Core.Bool.{true, _&&_};
+ghost use mathlib.Core.Bool.{_&&_};
 ghost use lib.ListN.{length};
 ghost use Rattle.algebra.specs.Words.{𝔽₁};
 ghost use Rattle.algebra.specs.WordLists.{elements};
-ghost use Rattle.job.specs.Outcome.{outcome as outcomeOf};
+ghost use Rattle.job.specs.Outcome.{outcome};
 ghost use Rattle.job.specs.Limits.{depthOk};
 ghost use Rattle.multilinear.specs.Polynomial.{poly};
 ghost use Rattle.residue.specs.Residues.{K, word};
 ghost use Rattle.residue.specs.Scans.{allBelow};
-ghost use Rattle.polynomial.specs.Evaluation.{Evaluates, evaluateLengths, judgeEvaluating, evaluation, outcome};
+ghost use Rattle.polynomial.specs.Evaluation.{Evaluates, evaluateLengths, judgeEvaluating, evaluation, evaluationOutcome};
 use job::Answer;
 use job::Refusal;
 use residue::Residue;
@@ -50,10 +50,13 @@ pub fn value(m: &[u32], z: &[u32]) -> Residue
     l.plus_product(Residue::new(z[top]), r)
 }
 
+// A depth that is not legal has no lengths.
 fn lengths_ok(depth: u32, m: usize, z: usize) -> bool
-    requires { ⌜ depthOk depth ≡ true ⌝ }
-    ensures { λ r. ⌜ r ≡ evaluateLengths depth m z ⌝ }
+    ensures { λ r. ⌜ r ≡ (depthOk depth && evaluateLengths depth m z) ⌝ }
 {
+    if !job::depth_ok(depth) {
+        return false;
+    }
     if m != job::message_len(depth) {
         return false;
     }
@@ -69,23 +72,20 @@ fn words_ok(m: &[u32], z: &[u32]) -> bool
     scan::all_below(z)
 }
 
+// The tests are made before any refusal, which costs a refused call one scan.
 fn judge(depth: u32, m: &[u32], z: &[u32]) -> Answer
-    ensures { λ r. ⌜ outcomeOf r ≡ judgeEvaluating depth (now (m .entry)) (now (z .entry)) ⌝ }
+    ensures { λ r. ⌜ outcome r ≡ judgeEvaluating depth (now (m .entry)) (now (z .entry)) ⌝ }
 {
-    if !job::depth_ok(depth) {
-        return Answer::Refused(Refusal::Depth);
-    }
-    if !lengths_ok(depth, m.len(), z.len()) {
-        return Answer::Refused(Refusal::Length);
-    }
-    if !words_ok(m, z) {
-        return Answer::Refused(Refusal::Word);
-    }
-    Answer::Done
+    let shallow = job::depth_ok(depth);
+    let sized = lengths_ok(depth, m.len(), z.len());
+    let below = words_ok(m, z);
+    let words = job::require(below, Refusal::Word, Answer::Done);
+    let lengths = job::require(sized, Refusal::Length, words);
+    job::require(shallow, Refusal::Depth, lengths)
 }
 
 pub fn evaluate(depth: u32, message: &[u32], point: &[u32]) -> Evaluation
-    ensures { λ r. ⌜ outcome r ≡ evaluation depth (now (message .entry)) (now (point .entry)) ⌝ }
+    ensures { λ r. ⌜ evaluationOutcome r ≡ evaluation depth (now (message .entry)) (now (point .entry)) ⌝ }
 {
     let answer = judge(depth, message, point);
     match answer {

@@ -8,7 +8,8 @@ use lib.Dec.{eqb}
 use lib.Count.{ones, ones-step, ones-cat, trailingZeros, under}
 use lib.Pow.{pow-pos, pow-mono, pow-lt}
 use borrow.Author.Tests.{eqb-true, eq-eqb}
-use Rattle.table.specs.Depth.{isPowerTo, exponentTo, exponent-most, exponent-is, power-is}
+use Rattle.table.specs.Depth.{isPowerTo, exponentTo}
+use Rattle.table.specs.DepthLaws.{exponent-most, exponent-is, power-is}
 
 ones-zero : ones 0 ≡ 0
 unfolding ones

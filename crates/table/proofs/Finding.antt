@@ -14,8 +14,10 @@ use Rattle.job.specs.declared.Refusal.{Refusal}
 use Rattle.job.specs.declared.Answer.the-variants.{Done, Refused}
 use Rattle.job.specs.Outcome.{refused, done, number, kept}
 use Rattle.residue.specs.Residues.{P, K}
-use Rattle.table.specs.Clearances.{inRange, residueOf, clearanceOf, residue-lt}
-use Rattle.table.specs.Depth.{isPower, exponent, exponent-is}
+use Rattle.clearance.specs.Clearances.{inRange, residueOf, clearanceOf}
+use Rattle.clearance.specs.ClearanceLaws.{residue-lt}
+use Rattle.table.specs.Depth.{isPower, exponent}
+use Rattle.table.specs.DepthLaws.{exponent-is}
 use Rattle.table.specs.Passes.{across, passes, passes-coefficients, passes-table}
 use Rattle.table.specs.Jobs.{judgeTable, MessageOf, Leaves, ToCoefficients as Coefficients, judgeMessage, tableOf, ToTable as Tables}
 use Rattle.table.specs.declared.transform.Way.the-variants.{ToCoefficients, ToTable}

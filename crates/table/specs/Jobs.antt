@@ -14,7 +14,7 @@ use Rattle.job.specs.declared.Answer.{Answer}
 use Rattle.job.specs.Outcome.{Outcome, refused, done, require, _⨾_, outcome, kept}
 use Rattle.residue.specs.Residues.{P, K, el}
 use Rattle.residue.specs.Scans.{allBelow}
-use Rattle.table.specs.Clearances.{inRange, residueOf, clearanceOf}
+use Rattle.clearance.specs.Clearances.{inRange, residueOf, clearanceOf}
 use Rattle.table.specs.Depth.{isPower, exponent}
 
 -- the outcome for a table, and for the length of the message's buffer

@@ -13,8 +13,10 @@ use Rattle.job.specs.declared.Answer.{Answer}
 use Rattle.job.specs.Outcome.{Outcome, done, outcome, kept}
 use Rattle.residue.specs.Residues.{P, K, Element, el, word}
 use Rattle.residue.specs.ScanLaws.{all-below, below-all}
-use Rattle.table.specs.Clearances.{inRange, residueOf, clearanceOf, residue-lt, clearance-residue, clearance-range, residue-clearance}
-use Rattle.table.specs.Depth.{isPower, exponent, exponent-is}
+use Rattle.clearance.specs.Clearances.{inRange, residueOf, clearanceOf}
+use Rattle.clearance.specs.ClearanceLaws.{residue-lt, clearance-residue, clearance-range, residue-clearance}
+use Rattle.table.specs.Depth.{isPower, exponent}
+use Rattle.table.specs.DepthLaws.{exponent-is}
 use Rattle.table.specs.Judged.{table-passed, table-done, message-passed, message-done}
 use Rattle.table.specs.Jobs.{judgeTable, MessageOf, Leaves, ToCoefficients, tableOf, ToTable}
 

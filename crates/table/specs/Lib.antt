@@ -1,14 +1,12 @@
--- Clearances, and the jobs that read them and turn tables of them into coefficients and back.
---     Clearances  the range, which residue is which clearance, and what a clearance means
+-- The jobs that turn tables of clearances into coefficients and back.
 --     Depth       the lengths that a table may have, and its depth
---     Reading     what reading a word gives
---     Jobs        what the two table jobs answer and leave
---     Judged      the tests of the two table jobs, one by one
+--     DepthLaws   such a length is 2 to its depth
+--     Jobs        what the two jobs answer and leave
+--     Judged      what holds where the two jobs are done, and that they are done where it holds
 --     Laws        a table has exactly one message; the two jobs undo each other
 --     Passes      the transform in place, which the inner functions' contracts name
-pub mod Clearances
 pub mod Depth
-pub mod Reading
+pub mod DepthLaws
 pub mod Jobs
 pub mod Judged
 pub mod Laws

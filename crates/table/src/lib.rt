@@ -1,8 +1,5 @@
-// Clearances: reading one, a table of them to coefficients, and back.
-mod clearance;
+// A table of clearances to the coefficients of its polynomial, and back.
 mod length;
-pub mod reading;
-mod slices;
 pub mod to_coefficients;
 pub mod to_table;
 mod transform;

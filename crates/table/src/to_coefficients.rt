@@ -9,29 +9,26 @@ ghost use Rattle.algebra.specs.WordLists.{elements, toWords};
 ghost use Rattle.multilinear.specs.Table.{coefficients};
 ghost use Rattle.job.specs.Outcome.{outcome};
 ghost use Rattle.residue.specs.Residues.{K};
-ghost use Rattle.table.specs.Clearances.{inRange, residueOf};
+ghost use Rattle.clearance.specs.Clearances.{inRange, residueOf};
 ghost use Rattle.table.specs.Depth.{isPower, exponent};
 ghost use Rattle.table.specs.Jobs.{judgeTable, ToCoefficients};
 use crate::length;
-use crate::slices;
 use crate::transform;
 use crate::transform::Way;
+use clearance::slices;
 use job::Answer;
 use job::Refusal;
 
+// The tests are made before any refusal, which costs a refused call one scan.
 fn judge(clearances: &[i32], len: usize) -> Answer
     ensures { λ r. ⌜ outcome r ≡ judgeTable (now (clearances .entry)) len ⌝ }
 {
-    if !length::is_power(clearances.len()) {
-        return Answer::Refused(Refusal::Depth);
-    }
-    if len != clearances.len() {
-        return Answer::Refused(Refusal::Length);
-    }
-    if !slices::all_in_range(clearances) {
-        return Answer::Refused(Refusal::Clearance);
-    }
-    Answer::Done
+    let power = length::is_power(clearances.len());
+    let same = len == clearances.len();
+    let in_range = slices::all_in_range(clearances);
+    let range = job::require(in_range, Refusal::Clearance, Answer::Done);
+    let lengths = job::require(same, Refusal::Length, range);
+    job::require(power, Refusal::Depth, lengths)
 }
 
 fn find(clearances: &[i32], message: &mut [u32])

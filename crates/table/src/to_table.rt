@@ -8,30 +8,24 @@ ghost use Rattle.residue.specs.Residues.{P};
 ghost use Rattle.table.specs.Depth.{isPower};
 ghost use Rattle.table.specs.Jobs.{judgeMessage, tableOf, ToTable};
 use crate::length;
-use crate::slices;
 use crate::transform;
 use crate::transform::Way;
+use clearance::slices;
 use job::Answer;
 use job::Refusal;
 use residue::scan;
 use residue::words;
 
+// The tests are made before any refusal, which costs a refused call one scan.
 fn judge(message: &[u32], table: usize, work: usize) -> Answer
     ensures { λ r. ⌜ outcome r ≡ judgeMessage (now (message .entry)) table work ⌝ }
 {
-    if !length::is_power(message.len()) {
-        return Answer::Refused(Refusal::Depth);
-    }
-    if table != message.len() {
-        return Answer::Refused(Refusal::Length);
-    }
-    if work != message.len() {
-        return Answer::Refused(Refusal::Length);
-    }
-    if !scan::all_below(message) {
-        return Answer::Refused(Refusal::Word);
-    }
-    Answer::Done
+    let power = length::is_power(message.len());
+    let same = (table == message.len()) & (work == message.len());
+    let below = scan::all_below(message);
+    let words = job::require(below, Refusal::Word, Answer::Done);
+    let lengths = job::require(same, Refusal::Length, words);
+    job::require(power, Refusal::Depth, lengths)
 }
 
 fn find(message: &[u32], clearances: &mut [i32], work: &mut [u32])

@@ -6,7 +6,7 @@ ghost use Rattle.algebra.specs.Words.{𝔽₁};
 ghost use Rattle.algebra.specs.WordLists.{Low, elements, toWords};
 ghost use Rattle.residue.specs.Residues.{P, word, el};
 ghost use Rattle.table.specs.Passes.{across, crossed, blocks, passes};
-use residue::Residue;
+use residue::entry;
 
 pub enum Way {
     ToCoefficients,
@@ -18,11 +18,9 @@ fn step(way: Way, x: u32, y: u32) -> u32
     requires { ⌜ (x < P) × (y < P) ⌝ }
     ensures { λ r. ⌜ r ≡ word (across way (el x) (el y)) ⌝ }
 {
-    let a = Residue::new(x);
-    let b = Residue::new(y);
     match way {
-        Way::ToCoefficients => b.minus(a).word(),
-        Way::ToTable => a.plus(b).word(),
+        Way::ToCoefficients => entry::minus(y, x),
+        Way::ToTable => entry::plus(x, y),
     }
 }
 

@@ -11,9 +11,9 @@ use Rattle.fold.specs.Job.{Folded}
 use Rattle.open.specs.Writing.{writtenOutcome as wrote, Wrote}
 use Rattle.open.specs.declared.Written.{Written}
 use Rattle.verdict.specs.Verdicts.{Numbers}
-use Rattle.polynomial.specs.Evaluation.{outcome as evaluated, evaluation}
+use Rattle.polynomial.specs.Evaluation.{evaluationOutcome as evaluated, evaluation}
 use Rattle.polynomial.specs.declared.Evaluation.{Evaluation}
-use Rattle.table.specs.Clearances.{Meaning, free, overlap}
+use Rattle.clearance.specs.Clearances.{Meaning, free, overlap}
 use Rattle.table.specs.Jobs.{ToCoefficients, ToTable}
 use Rattle.tvarchula.specs.declared.answer.Reply.{Reply}
 use Rattle.tvarchula.specs.declared.ground.ReadingReply.{ReadingReply}

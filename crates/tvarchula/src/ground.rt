@@ -1,11 +1,11 @@
 // Clearances, tables and evaluation.
 ghost use mathlib.Core.Path.{_≡_};
-ghost use Rattle.table.specs.Reading.{reading};
+ghost use Rattle.clearance.specs.Reading.{reading};
 ghost use Rattle.tvarchula.specs.Replies.{readingReply, ToCoefficientsCall, ToTableCall, EvaluateCall};
 use crate::answer;
 use crate::answer::Reply;
+use clearance::reading::Reading;
 use polynomial::Evaluation;
-use table::reading::Reading;
 
 // kind is 1 for free, 2 for an overlap; kind and amount are 0 where the word is refused.
 #[repr(C)]
@@ -19,7 +19,7 @@ pub struct ReadingReply {
 pub extern "C" fn tv_read_clearance(word: u32) -> ReadingReply
     ensures { λ r. ⌜ r ≡ readingReply (reading word) ⌝ }
 {
-    let r = table::reading::read_clearance(word);
+    let r = clearance::reading::read_clearance(word);
     match r {
         Reading::Free(n) => ReadingReply {
             number: 0,

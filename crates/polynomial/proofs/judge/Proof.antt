@@ -1,51 +1,52 @@
-use Rattle.job.specs.OutcomeLaws.{stop, pass, refuses, holds}
-use Rattle.algebra.specs.Flags.{passes, fails}
-use Rattle.polynomial.specs.Evaluation.{judgeEvaluating}
+-- The tests as one chain. Assumes nothing.
+use mathlib.Core.Path.{_∙_}
+use mathlib.Core.Bool.{_&&_}
+use lib.ListN.{length}
 use borrow.Author.Needs.{needs}
+use Rattle.job.specs.Limits.{depthOk}
+use Rattle.job.specs.Outcome.{require}
+use Rattle.job.specs.OutcomeLaws.{link, last, guarded}
+use Rattle.residue.specs.Scans.{allBelow}
+use Rattle.polynomial.specs.Evaluation.{evaluateLengths, judgeEvaluating}
 use Rattle.polynomial.proofs.judge.Statement.{statement}
 use Rattle.polynomial.proofs.judge.Tie as tie
 
 depth-ok-requires : tie.Need-depth-ok-requires
 depth-ok-requires c κs = search needs
 
-returns : tie.Need-returns
-unfolding judgeEvaluating
-returns c = stop _ (fails (c .before .depth-ok .ensures) (c .if1 .taken))
-
 lengths-ok-requires : tie.Need-lengths-ok-requires
-lengths-ok-requires c κs = passes (c .before .depth-ok .ensures) (c .if1 .left)
-
-returns-2 : tie.Need-returns-2
-unfolding judgeEvaluating
-returns-2 c =
-    let p = c .before .before in
-    pass 1 (passes (p .before .depth-ok .ensures) (p .if1 .left)) (stop _ (fails (c .before .lengths-ok .ensures) (c .if2 .taken)))
+lengths-ok-requires c κs = search needs
 
 words-ok-requires : tie.Need-words-ok-requires
 words-ok-requires c κs = search needs
 
-returns-3 : tie.Need-returns-3
-unfolding judgeEvaluating
-returns-3 c =
-    let q = c .before .before in
-    let p = q .before .before in
-    pass 1 (passes (p .before .depth-ok .ensures) (p .if1 .left)) (pass 3 (passes (q .before .lengths-ok .ensures) (q .if2 .left)) (refuses (fails (c .before .words-ok .ensures) (c .if3 .taken))))
+require-requires : tie.Need-require-requires
+require-requires c κs = search needs
 
-returns-4 : tie.Need-returns-4
+require-requires-2 : tie.Need-require-requires-2
+require-requires-2 c κs = search needs
+
+require-requires-3 : tie.Need-require-requires-3
+require-requires-3 c κs = search needs
+
+returns : tie.Need-returns
 unfolding judgeEvaluating
-returns-4 c =
-    let q = c .before .before in
-    let p = q .before .before in
-    pass 1 (passes (p .before .depth-ok .ensures) (p .if1 .left)) (pass 3 (passes (q .before .lengths-ok .ensures) (q .if2 .left)) (holds 4 (passes (c .before .words-ok .ensures) (c .if3 .left))))
+returns c =
+    let r = c .before .before in
+    let s = r .before .before in
+    let a = s .before .before .before .before .args in
+    link _ 1 (c .require3 .ensures) (s .before .depth-ok .ensures)
+    (link _ 3 (c .before .require2 .ensures) (s .lengths-ok .ensures) (last _ 4 (r .require .ensures) (r .before .words-ok .ensures)))
+    ∙ guarded (depthOk (a .depth)) (evaluateLengths (a .depth) (length (a .m .now)) (length (a .z .now))) 1 3 (require (allBelow (a .m .now) && allBelow (a .z .now)) 4)
 
 pub judge-spec : {M : Type 1} → statement M
 judge-spec =
     tie.close
     (tie.spec
     depth-ok-requires
-    returns
     lengths-ok-requires
-    returns-2
     words-ok-requires
-    returns-3
-    returns-4)
+    require-requires
+    require-requires-2
+    require-requires-3
+    returns)

@@ -1,49 +1,43 @@
--- Each return by the tests that led there. Assumes nothing.
+-- The tests as one chain. Assumes nothing.
+use mathlib.Core.Path.{refl}
+use mathlib.Core.Bool.{_&&_}
+use lib.Dec.{eqb}
+use lib.ListN.{length}
 use borrow.Author.Needs.{needs}
-use Rattle.algebra.specs.Flags.{passes, fails}
-use Rattle.table.specs.Judged.{message-1, message-3, message-3-work, message-4, message-done}
+use Rattle.job.specs.OutcomeLaws.{link, last}
 use Rattle.table.proofs.to_table.judge.Statement.{statement}
 use Rattle.table.proofs.to_table.judge.Tie as tie
 
 is-power-requires : tie.Need-is-power-requires
 is-power-requires c κs = search needs
 
-returns : tie.Need-returns
-returns c = let a = c .before .before .before .args in message-1 (a .message .now) (a .table) (a .work) (fails (c .before .is-power .ensures) (c .if1 .taken))
-
-returns-2 : tie.Need-returns-2
-returns-2 c =
-    let p = c .before .before in
-    let a = p .before .before .args in
-    message-3 (a .message .now) (a .table) (a .work) (passes (p .is-power .ensures) (c .before .if1 .left)) (c .if2 .taken)
-
-returns-3 : tie.Need-returns-3
-returns-3 c =
-    let p = c .before .before .before in
-    let a = p .before .before .args in
-    let power = passes (p .is-power .ensures) (c .before .before .if1 .left) in
-    message-3-work (a .message .now) (a .table) (a .work) power (c .before .if2 .left) (c .if3 .taken)
-
 all-below-requires : tie.Need-all-below-requires
 all-below-requires c κs = search needs
 
-returns-4 : tie.Need-returns-4
-returns-4 c =
-    let q = c .before .before .before in
-    let p = q .before .before in
-    let a = p .before .before .args in
-    let power = passes (p .is-power .ensures) (q .before .if1 .left) in
-    message-4 (a .message .now) (a .table) (a .work) power (q .if2 .left) (c .before .before .if3 .left) (fails (c .before .all-below .ensures) (c .if4 .taken))
+require-requires : tie.Need-require-requires
+require-requires c κs = search needs
 
-returns-5 : tie.Need-returns-5
-returns-5 c =
-    let q = c .before .before .before in
-    let p = q .before .before in
-    let a = p .before .before .args in
-    let power = passes (p .is-power .ensures) (q .before .if1 .left) in
-    message-done (a .message .now) (a .table) (a .work) power (q .if2 .left) (c .before .before .if3 .left) (passes (c .before .all-below .ensures) (c .if4 .left))
+require-requires-2 : tie.Need-require-requires-2
+require-requires-2 c κs = search needs
+
+require-requires-3 : tie.Need-require-requires-3
+require-requires-3 c κs = search needs
+
+returns : tie.Need-returns
+returns c =
+    let r = c .before .before in
+    let a = r .before .before .before .before .args in
+    let n = length (a .message .now) in
+    link _ 1 (c .require3 .ensures) (r .before .before .is-power .ensures)
+    (link (eqb (a .table) n && eqb (a .work) n) 3 (c .before .require2 .ensures) refl (last _ 4 (r .require .ensures) (r .before .all-below .ensures)))
 
 pub judge-spec : {M : Type 1} → statement M
 judge-spec =
     tie.close
-    (tie.spec is-power-requires returns returns-2 returns-3 all-below-requires returns-4 returns-5)
+    (tie.spec
+    is-power-requires
+    all-below-requires
+    require-requires
+    require-requires-2
+    require-requires-3
+    returns)

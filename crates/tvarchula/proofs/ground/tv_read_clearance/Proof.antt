@@ -1,6 +1,6 @@
 use mathlib.Core.Path.{sym, ap, _∙_}
 use Rattle.tvarchula.specs.Replies.{given, readingReply}
-use Rattle.table.specs.Reading.{outcomeOf}
+use Rattle.clearance.specs.Reading.{readingOutcome}
 use borrow.Author.Needs.{needs}
 use Rattle.tvarchula.proofs.ground.tv_read_clearance.Statement.{statement}
 use Rattle.tvarchula.proofs.ground.tv_read_clearance.Tie as tie
@@ -21,13 +21,13 @@ number-requires : tie.Need-number-requires
 number-requires c κs = search needs
 
 returns : tie.Need-returns
-returns c = ap readingReply (ap outcomeOf (sym (c .before .r .given .1)) ∙ c .before .before .before .read-clearance .ensures)
+returns c = ap readingReply (ap readingOutcome (sym (c .before .r .given .1)) ∙ c .before .before .before .read-clearance .ensures)
 
 returns-2 : tie.Need-returns-2
-returns-2 c = ap readingReply (ap outcomeOf (sym (c .before .r2 .given .1)) ∙ c .before .before .before .read-clearance .ensures)
+returns-2 c = ap readingReply (ap readingOutcome (sym (c .before .r2 .given .1)) ∙ c .before .before .before .read-clearance .ensures)
 
 returns-3 : tie.Need-returns-3
-returns-3 c = (λ i. record { number = c .number .ensures i; kind = 0; amount = 0 }) ∙ ap readingReply (ap outcomeOf (sym (c .before .before .r3 .given .1)) ∙ c .before .before .before .before .read-clearance .ensures)
+returns-3 c = (λ i. record { number = c .number .ensures i; kind = 0; amount = 0 }) ∙ ap readingReply (ap readingOutcome (sym (c .before .before .r3 .given .1)) ∙ c .before .before .before .before .read-clearance .ensures)
 
 pub tv-read-clearance-spec : {M : Type 1} → statement M
 tv-read-clearance-spec =

@@ -1,0 +1,46 @@
+-- The three ways that reading a word ends. Assumes nothing.
+use mathlib.Core.Path.{_≡_, refl, sym, ap, _∙_}
+use mathlib.Core.Bool.{Bool, true, false}
+use Prim.Native.Nat.{ℕ, zero, suc, _-_, _<_, _≤_}
+use native.Mathlib.Omega.{arith}
+use lib.Dec.{ltb}
+use borrow.Author.Tests.{ltb-true, lt-ltb}
+use Rattle.job.specs.Outcome.{refused, done}
+use Rattle.job.specs.OutcomeLaws.{stop, pass}
+use Rattle.residue.specs.declared.Residue.{Residue}
+use Rattle.residue.specs.declared.Parsed.the-variants.{Residue as Is, TooLarge}
+use Rattle.residue.specs.Residues.{P, parsed, parsedBy}
+use Rattle.clearance.specs.Clearances.{border, meaning, free, overlap}
+use Rattle.clearance.specs.ClearanceLaws.{clearance-free, clearance-overlap}
+use Rattle.clearance.specs.Reading.{reading}
+
+pub no-residue : (w : ℕ) → TooLarge ≡ parsed w → refused 4 ≡ reading w
+no-residue w e = go (ltb w P) refl e
+  where
+    go : (b : Bool) → ltb w P ≡ b → TooLarge ≡ parsedBy b w → refused 4 ≡ reading w
+    go true p q = absurd (let z : _≡_ {A = ℕ} 0 1 = cc in omega arith)
+    go false p q = stop _ p
+
+-- a word that is a residue is that residue's
+pub record Same (w v : ℕ) : Type 0 where
+  pub is : v ≡ w
+  pub low : w < P
+
+pub a-residue : (w : ℕ) (r : Residue) → Is r ≡ parsed w → Same w (r .0)
+a-residue w r e = go (ltb w P) refl e
+  where
+    go : (b : Bool) → ltb w P ≡ b → Is r ≡ parsedBy b w → Same w (r .0)
+    go true p q = let s : r ≡ record { 0 = w } = cc in record { is = ap (λ x. x .0) s; low = ltb-true w P p }
+    go false p q = absurd (let z : _≡_ {A = ℕ} 0 1 = cc in omega arith)
+
+pub reads-free : (w : ℕ) → w < border → done (free w) ≡ reading w
+reads-free w h = pass 4 (lt-ltb w P (omega arith)) (sym (ap (λ x. done (meaning x)) (clearance-free w h)))
+
+pub reads-overlap : (w : ℕ) → border ≤ w → w < P → done (overlap (P - w)) ≡ reading w
+reads-overlap w h l = go (P - w) refl
+  where
+    go : (k : ℕ) → P - w ≡ k → done (overlap (P - w)) ≡ reading w
+    go zero e = absurd (omega arith)
+    go (suc n) e =
+        ap (λ k. done (overlap k)) e
+        ∙ pass 4 (lt-ltb w P l) (sym (ap (λ x. done (meaning x)) (clearance-overlap w n h e)))

@@ -1,0 +1,18 @@
+-- What reading a word as a clearance gives. Assumes nothing.
+use Prim.Native.Nat.{ℕ}
+use lib.Dec.{ltb}
+use Rattle.job.specs.Outcome.{Outcome, refused, done, require, _⨾_, number}
+use Rattle.residue.specs.Residues.{P}
+use Rattle.clearance.specs.Clearances.{clearanceOf, Meaning, free, overlap, meaning}
+use Rattle.clearance.specs.declared.reading.Reading.{Reading}
+use Rattle.clearance.specs.declared.reading.Reading.the-variants.{Free, Overlap, Refused}
+
+-- refusal 4 for a word that is no residue, else what the clearance means
+abbrev pub reading : ℕ → Outcome Meaning
+reading w = require (ltb w P) 4 ⨾ done (meaning (clearanceOf w))
+
+-- what each case of the answer says
+abbrev pub readingOutcome : Reading → Outcome Meaning
+readingOutcome (Free n) = done (free n)
+readingOutcome (Overlap n) = done (overlap n)
+readingOutcome (Refused r) = refused (number r)

@@ -1,0 +1,27 @@
+// Reading a residue as a clearance.
+ghost use mathlib.Core.Path.{_≡_};
+ghost use Rattle.clearance.specs.Reading.{reading, readingOutcome};
+use job::Refusal;
+use residue::Parsed;
+use residue::Residue;
+
+pub enum Reading {
+    Free(u32),
+    Overlap(u32),
+    Refused(Refusal),
+}
+
+pub fn read_clearance(word: u32) -> Reading
+    ensures { λ r. ⌜ readingOutcome r ≡ reading word ⌝ }
+{
+    let r = match Residue::from_word(word) {
+        Parsed::Residue(r) => r,
+        Parsed::TooLarge => return Reading::Refused(Refusal::Word),
+    };
+    let w = r.word();
+    if w < Residue::HALF.word() {
+        Reading::Free(w)
+    } else {
+        Reading::Overlap(Residue::MODULUS - w)
+    }
+}

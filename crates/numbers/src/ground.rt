@@ -1,0 +1,116 @@
+// Clearances, tables and evaluation.
+use clearance::reading;
+use clearance::reading::Reading;
+use polynomial::Evaluation;
+use table::to_coefficients;
+use table::to_table;
+
+fn meaning(r: Reading) {
+    match r {
+        Reading::Free(n) => print::line(b": free", n),
+        Reading::Overlap(n) => print::line(b": overlap", n),
+        Reading::Refused(r) => print::line(b": refused", job::number(r)),
+    }
+}
+
+fn read(word: u32) {
+    print::label(b"read");
+    print::number(word);
+    meaning(reading::read_clearance(word));
+}
+
+pub fn readings() {
+    read(0);
+    read(1073741823);
+    read(1073741824);
+    read(2147483646);
+    read(2147483647);
+}
+
+fn transform(text: &[u8], t: &[i32], m: &mut [u32]) {
+    print::answer(text, to_coefficients::table_to_coefficients(t, m));
+}
+
+fn three() {
+    let t = [7i32, -7, 0];
+    let mut m = [0u32; 3];
+    transform(b"table of 3 entries:", &t, &mut m);
+}
+
+fn none() {
+    let t = [0i32; 0];
+    let mut m = [0u32; 0];
+    transform(b"table of 0 entries:", &t, &mut m);
+}
+
+fn one() {
+    let t = [7i32];
+    let mut m = [0u32; 1];
+    transform(b"table of 1 entry:", &t, &mut m);
+    print::words(b"message", &m);
+}
+
+pub fn lengths() {
+    three();
+    none();
+    one();
+}
+
+fn range(text: &[u8], x: i32) {
+    let t = [x];
+    let mut m = [0u32; 1];
+    transform(text, &t, &mut m);
+}
+
+pub fn ranges() {
+    range(b"clearance 1073741823:", 1073741823);
+    range(b"clearance 1073741824:", 1073741824);
+    range(b"clearance -1073741823:", -1073741823);
+    range(b"clearance -1073741824:", -1073741824);
+}
+
+fn coefficients(text: &[u8], t: &[i32], m: &mut [u32]) {
+    transform(text, t, m);
+    print::words(b"coefficients", m);
+}
+
+fn back(m: &[u32], t: &mut [i32], work: &mut [u32]) {
+    print::answer(b"and back:", to_table::coefficients_to_table(m, t, work));
+}
+
+fn back_and_there(m: &[u32]) {
+    let mut t = [0i32; 4];
+    let mut work = [9u32; 4];
+    back(m, &mut t, &mut work);
+    let mut again = [0u32; 4];
+    coefficients(b"and to coefficients again:", &t, &mut again);
+    print::words(b"work", &work);
+}
+
+pub fn transforms() {
+    let t = [3i32, 5, 4, 10];
+    let mut m = [0u32; 4];
+    coefficients(b"table 3 5 4 10:", &t, &mut m);
+    back_and_there(&m);
+}
+
+fn value(e: Evaluation) {
+    match e {
+        Evaluation::Value(v) => print::line(b" value", v),
+        Evaluation::Refused(r) => print::line(b" refused", job::number(r)),
+    }
+}
+
+fn evaluate(text: &[u8], depth: u32, z: u32) {
+    print::label(text);
+    let m = [5u32, 7];
+    let point = [z];
+    value(polynomial::evaluate(depth, &m, &point));
+}
+
+pub fn evaluations() {
+    evaluate(b"5 7 at 3:", 1, 3);
+    evaluate(b"5 7 at 2147483646:", 1, 2147483646);
+    evaluate(b"5 7 at 2147483647:", 1, 2147483647);
+    evaluate(b"5 7 at depth 17:", 17, 3);
+}
