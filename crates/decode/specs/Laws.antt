@@ -26,30 +26,18 @@ use Rattle.residue.specs.Scans.{allBelow, noneZero, allDiffer}
 use Rattle.residue.specs.ScanLaws.{all-below, none-zero, all-differ}
 use Rattle.parameters.specs.Lent.{lent}
 use Rattle.parameters.specs.Parameters.{limits, rowLengths, rowWords}
-use Rattle.parameters.specs.ParameterLaws.{within, row-lengths, lent-coding}
+use Rattle.parameters.specs.ParameterLaws.{judge-number, within, row-lengths, lent-coding}
 use Rattle.undo.specs.Steps.{Decodes}
 use Rattle.decode.specs.Decoding.{decodeLengths, judgeDecoding, Settled, message, none, Decoded, refusal, settled}
 
 infixr 71 _⊛_
 open Vectors (vectors K) using (_⊛_)
 
--- refusals that are at most m
-require-most : (b : Bool) (k m : ℕ) {n : ℕ} → k ≤ m → require b k ≡ refused n → n ≤ m
-require-most true k m h e = absurd (let z : _≡_ {A = ℕ} 0 1 = cc in omega arith)
-require-most false k m {n = n} h e = let same : k ≡ n = cc in omega arith
-
-after-most : {A B : Type 0} (o : Outcome A) (m : ℕ) {next : Outcome B} {n : ℕ} → (o ≡ refused n → n ≤ m) → (next ≡ refused n → n ≤ m) → o ⨾ next ≡ refused n → n ≤ m
-after-most (refused k) m {n = n} f g e = f (let same : k ≡ n = cc in ap refused same)
-after-most (done a) m f g e = g e
-
 -- the tests give the numbers 1 to 6
 decoding-most : (d c : ℕ) (g t t' b : List ℕ) (m k n : ℕ) → judgeDecoding d c g t t' b m k ≡ refused n → n ≤ 6
 unfolding judgeDecoding
 decoding-most d c g t t' b m k n =
-    after-most (limits d c) 6 (after-most (require (depthOk d) 1) 6 (require-most (depthOk d) 1 6 (omega arith)) (require-most (rateOk c) 2 6 (omega arith)))
-    (after-most (require (decodeLengths d c (length g) (length t) (length t') (length b) m k) 3) 6 (require-most (decodeLengths d c (length g) (length t) (length t') (length b) m k) 3 6 (omega arith))
-    (after-most (require (rowWords g t t' && allBelow b) 4) 6 (require-most (rowWords g t t' && allBelow b) 4 6 (omega arith))
-    (after-most (require (noneZero g) 5) 6 (require-most (noneZero g) 5 6 (omega arith)) (require-most (allDiffer t t') 6 6 (omega arith)))))
+    judge-number (λ n. n ≤ 6) (λ k lo hi. hi) d c g t t' (decodeLengths d c (length g) (length t) (length t') (length b) m k) (rowWords g t t' && allBelow b)
 
 -- no refusal from 1 to 6 is due
 pub decodes : (d c : ℕ) (g t t' b : List ℕ) (m k : ℕ) → judgeDecoding d c g t t' b m k ≡ done tt → Decodes d g t t' b k × (m ≡ 2 ^ d)

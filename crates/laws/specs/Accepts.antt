@@ -35,8 +35,8 @@ use Rattle.job.specs.Limits.{depthOk, rateOk, blockSize}
 use Rattle.residue.specs.Residues.{F, K, el, inv, _⊞_, _⊠_}
 use Rattle.residue.specs.Scans.{noneZero, allDiffer}
 use Rattle.parameters.specs.Lent.{lent, diagonal}
-use Rattle.parameters.specs.Parameters.{limits, rowLengths, legalRow}
-use Rattle.parameters.specs.ParameterLaws.{row-lengths}
+use Rattle.parameters.specs.Parameters.{limits, rowLengths, judgeRow}
+use Rattle.parameters.specs.ParameterLaws.{row-lengths, judge-number}
 use Rattle.verdict.specs.Verdicts.{Numbers, checkNumbers, numbersOf}
 use Rattle.verify.specs.Verifying.{openedLengths, openedWords, queriesOk, judgeVerifying, verification}
 use Rattle.laws.specs.Openings.{legal-queries}
@@ -81,11 +81,8 @@ module _ (d c : ℕ) (g t t' w z : List ℕ) (y : ℕ) (r us o : List ℕ) where
   refusals : (n : ℕ) → judged ≡ refused n → Number n
   unfolding judgeVerifying
   refusals n =
-      after-number Number (limits d c) (after-number Number (require (depthOk d) 1) (require-number Number (depthOk d) 1 (omega arith, omega arith)) (require-number Number (rateOk c) 2 (omega arith, omega arith)))
-      (after-number Number (require lengths 3) (require-number Number lengths 3 (omega arith, omega arith))
-      (after-number Number (require words 4) (require-number Number words 4 (omega arith, omega arith))
-      (after-number Number (legalRow g t t') (after-number Number (require (noneZero g) 5) (require-number Number (noneZero g) 5 (omega arith, omega arith)) (require-number Number (allDiffer t t') 6 (omega arith, omega arith)))
-      (require-number Number (queriesOk d c us) 7 (omega arith, omega arith)))))
+      after-number Number (judgeRow d c g t t' lengths words) (judge-number Number (λ k lo hi. (lo, omega arith)) d c g t t' lengths words)
+      (require-number Number (queriesOk d c us) 7 (omega arith, omega arith))
     where
       lengths : Bool
       lengths = openedLengths d c (length g) (length t) (length t') (length w) (length z) (length r) (length o)
@@ -97,15 +94,14 @@ module _ (d c : ℕ) (g t t' w z : List ℕ) (y : ℕ) (r us o : List ℕ) where
   known : judged ≡ done tt → (length g ≡ c) × (length r ≡ d) × (length o ≡ openingSize c 0 d) × (queriesOk d c us ≡ true)
   unfolding judgeVerifying openedLengths
   known e =
-      let a = both (limits d c) e in
+      let j = both (judgeRow d c g t t' (openedLengths d c (length g) (length t) (length t') (length w) (length z) (length r) (length o)) (openedWords g t t' w z y r o)) e in
+      let a = both (limits d c) (j .0) in
       let b = require-done (openedLengths d c (length g) (length t) (length t') (length w) (length z) (length r) (length o)) 3 (a .1) in
-      let s = require-done (openedWords g t t' w z y r o) 4 (b .1) in
-      let u = both (legalRow g t t') (s .1) in
       let l = and-both (rowLengths d c (length g) (length t) (length t')) _ (b .0) in
       let l₂ = and-both (eqb (length w) (blockSize c d)) _ (l .1) in
       let l₃ = and-both (eqb (length z) d) _ (l₂ .1) in
       let l₄ = and-both (eqb (length r) d) _ (l₃ .1) in
-      (row-lengths d c (length g) (length t) (length t') (l .0) .row, eqb-true _ _ (l₄ .0), eqb-true _ _ (l₄ .1), held (queriesOk d c us) 7 (u .1))
+      (row-lengths d c (length g) (length t) (length t') (l .0) .row, eqb-true _ _ (l₄ .0), eqb-true _ _ (l₄ .1), held (queriesOk d c us) 7 (j .1))
 
   module _ (rate : length g ≡ c) (challenges : length r ≡ d) (long : length o ≡ openingSize c 0 d) where
     depth : length (elements 𝔽₁ r) ≡ d

@@ -2,14 +2,15 @@
 use mathlib.Core.Path.{_≡_, refl, sym, ap, _∙_}
 use mathlib.Core.Bool.{Bool, true, false, _&&_}
 use mathlib.Core.List.{List}
-use Prim.Native.Nat.{ℕ}
+use Prim.Native.Nat.{ℕ, _≤_}
+use native.Mathlib.Omega.{arith}
 use lib.Dec.{eqb}
 use lib.ListN.{length}
 use borrow.Author.Tests.{eqb-true}
 use Rattle.algebra.specs.Tests.{and-both}
 use Rattle.algebra.specs.WordLists.{Low}
-use Rattle.job.specs.Outcome.{Outcome, done, require, _⨾_}
-use Rattle.job.specs.OutcomeLaws.{require-done, held}
+use Rattle.job.specs.Outcome.{Outcome, refused, done, require, _⨾_}
+use Rattle.job.specs.OutcomeLaws.{require-done, held, require-number, after-number}
 use Rattle.job.specs.Limits.{depthOk, rateOk, diagonalsSize}
 use Rattle.residue.specs.Residues.{P}
 use Rattle.residue.specs.Scans.{allBelow, noneZero, allDiffer}
@@ -59,6 +60,17 @@ pub judged-by : (d c : ℕ) (g t t' : List ℕ) (L W : Bool) {l w : Bool} {out :
     → l ≡ (inLimits d c && L) → w ≡ (l && W) → out ≡ judgeRow d c g t t' l w → out ≡ judgeRow d c g t t' L W
 judged-by d c g t t' L W e f h =
     h ∙ (λ i. judgeRow d c g t t' (e i) ((f ∙ ap (λ b. b && W) e) i)) ∙ judge-guarded d c g t t' L W
+
+-- its refusals are 1 to 6
+pub judge-number : (Q : ℕ → Type 0) → ((k : ℕ) → 1 ≤ k → k ≤ 6 → Q k) → (d c : ℕ) (g t t' : List ℕ) (l w : Bool) {n : ℕ} → judgeRow d c g t t' l w ≡ refused n → Q n
+judge-number Q q d c g t t' l w =
+    after-number Q (limits d c) (after-number Q (require (depthOk d) 1) (is (depthOk d) 1 (omega arith) (omega arith)) (is (rateOk c) 2 (omega arith) (omega arith)))
+    (after-number Q (require l 3) (is l 3 (omega arith) (omega arith))
+    (after-number Q (require w 4) (is w 4 (omega arith) (omega arith))
+    (after-number Q (require (noneZero g) 5) (is (noneZero g) 5 (omega arith) (omega arith)) (is (allDiffer t t') 6 (omega arith) (omega arith)))))
+  where
+    is : (b : Bool) (k : ℕ) → 1 ≤ k → k ≤ 6 → {n : ℕ} → require b k ≡ refused n → Q n
+    is b k lo hi e = require-number Q b k (q k lo hi) e
 
 pub within : (d c : ℕ) → done tt ≡ limits d c → (depthOk d ≡ true) × (rateOk c ≡ true)
 within d c e =

@@ -1,6 +1,6 @@
 use mathlib.Core.Path.{sym, ap, _∙_}
 use Rattle.tvarchula.specs.Replies.{reply, given}
-use Rattle.open.specs.Writing.{outcome as wrote}
+use Rattle.open.specs.Writing.{writtenOutcome as wrote}
 use borrow.Author.Needs.{needs}
 use Rattle.tvarchula.proofs.opening.tv_write_opening.Statement.{statement}
 use Rattle.tvarchula.proofs.opening.tv_write_opening.Tie as tie
