@@ -1,21 +1,17 @@
 // Runs the order's numbers and writes what comes of them, a line each; the file stdout says what they should be.
-mod coding;
-mod ground;
-mod openings;
-mod verdicts;
 
 fn main() {
-    ground::readings();
-    ground::lengths();
-    ground::ranges();
-    ground::transforms();
-    ground::evaluations();
-    coding::encodings();
-    coding::decodings();
-    coding::refusals();
-    verdicts::depth_0();
-    verdicts::queries();
-    verdicts::eq_is_0();
-    verdicts::written();
-    verdicts::places();
+    numbers_ground::readings();
+    numbers_ground::lengths();
+    numbers_ground::ranges();
+    numbers_ground::transforms();
+    numbers_ground::evaluations();
+    numbers_coding::encodings();
+    numbers_coding::decodings();
+    numbers_coding::refusals();
+    numbers_openings::depth_0();
+    numbers_openings::queries();
+    numbers_openings::eq_is_0();
+    numbers_openings::written();
+    numbers_openings::places();
 }

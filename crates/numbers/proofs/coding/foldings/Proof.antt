@@ -1,7 +1,0 @@
-use mathlib.Core.Path.{refl}
-use native.Mathlib.Omega.{arith}
-use Rattle.numbers.proofs.coding.foldings.Statement.{statement}
-use Rattle.numbers.proofs.coding.foldings.Tie as tie
-
-pub foldings-spec : {M : Type 1} → statement M
-foldings-spec = tie.close (tie.spec (λ c. refl) (λ c. refl) (λ c κs. tt) (λ c. refl) (λ c. omega arith) (λ c κs. tt) (λ c. refl) (λ c. omega arith) (λ c κs. tt) (λ c. tt))

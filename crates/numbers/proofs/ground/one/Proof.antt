@@ -1,7 +1,0 @@
-use mathlib.Core.Path.{refl}
-use native.Mathlib.Omega.{arith}
-use Rattle.numbers.proofs.ground.one.Statement.{statement}
-use Rattle.numbers.proofs.ground.one.Tie as tie
-
-pub one-spec : {M : Type 1} → statement M
-one-spec = tie.close (tie.spec (λ c. refl) (λ c. refl) (λ c. refl) (λ c κs. tt) (λ c. refl) (λ c. omega arith) (λ c κs. tt) (λ c. tt))
