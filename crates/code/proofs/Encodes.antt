@@ -21,12 +21,12 @@ use Rattle.residue.specs.ScanLaws.{all-below}
 use Rattle.parameters.specs.Lent.{lent}
 use Rattle.parameters.specs.Parameters.{limits, rowLengths, rowWords}
 use Rattle.parameters.specs.ParameterLaws.{row-lengths, lent-coding}
-use Rattle.code.specs.Encoding.{encodeLengths, judgeEncoding, Encodes}
-use Rattle.code.specs.Steps.{Spreading, Lifting}
+use Rattle.code.specs.Encoding.{encodeLengths, judgeEncoding, EncodeInput}
+use Rattle.code.specs.Steps.{SpreadInput, LiftInput}
 use Rattle.code.proofs.Spreads.{length-spreaded, spreaded}
 
 -- the job's tests have passed
-pub encodes : (d c : ℕ) (g t t' m : List ℕ) (n : ℕ) → judgeEncoding d c g t t' m n ≡ done tt → Encodes d g t t' m n
+pub encodes : (d c : ℕ) (g t t' m : List ℕ) (n : ℕ) → judgeEncoding d c g t t' m n ≡ done tt → EncodeInput d g t t' m n
 unfolding judgeEncoding encodeLengths
 encodes d c g t t' m n e =
     let a = both (limits d c) e .1 in
@@ -42,14 +42,14 @@ encodes d c g t t' m n e =
       size = eqb-true _ _ (s .1) ∙ ap (λ r. blockSize r d) (sym (row-lengths d c _ _ _ (l .0) .row));
     }
 
-module _ (d : ℕ) (g t t' m out : List ℕ) (𝓔 : Encodes d g t t' m (length out)) where
+module _ (d : ℕ) (g t t' m out : List ℕ) (𝓔 : EncodeInput d g t t' m (length out)) where
   blocks : blockSize (length g) d ≡ length m * length g
   blocks = mul-comm (length g) (2 ^ d) ∙ ap (λ k. k * length g) (sym (𝓔 .message))
 
-  pub spreading : Spreading m g out
+  pub spreading : SpreadInput m g out
   spreading = record { message = 𝓔 .words; row = 𝓔 .coding .row; size = 𝓔 .size ∙ blocks }
 
-  pub lifting : (w : List ℕ) → w ≡ spreaded m g → Lifting d g t t' w
+  pub lifting : (w : List ℕ) → w ≡ spreaded m g → LiftInput d g t t' w
   lifting w e =
       record { coding = 𝓔 .coding; size = ap length e ∙ length-spreaded m g ∙ sym blocks; block = rw e (low-words 𝔽₁ _) }
 

@@ -29,7 +29,7 @@ pub record Encoded (d c : ℕ) (g t t' m old : List ℕ) (r : Answer) (out : Lis
   pub result : out ≡ kept (judgeEncoding d c g t t' m (length old)) old (codeword d g t t' m)
 
 -- what the work is lent: exact lengths, words below the modulus, a legal row and diagonals
-pub record Encodes (d : ℕ) (g t t' m : List ℕ) (n : ℕ) : Type 0 where
+pub record EncodeInput (d : ℕ) (g t t' m : List ℕ) (n : ℕ) : Type 0 where
   pub coding : Coding d g t t'
   pub message : length m ≡ 2 ^ d
   pub words : Low P m

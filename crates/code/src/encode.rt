@@ -5,14 +5,14 @@ ghost use lib.ListN.{length};
 ghost use Rattle.job.specs.Outcome.{outcome};
 ghost use Rattle.parameters.specs.Lent.{codeword};
 ghost use Rattle.parameters.specs.Parameters.{inLimits};
-ghost use Rattle.code.specs.Encoding.{encodeLengths, judgeEncoding, Encodes, Encoded};
+ghost use Rattle.code.specs.Encoding.{encodeLengths, judgeEncoding, EncodeInput, Encoded};
 use crate::lift;
 use crate::spread;
 use job::Answer;
 
 // Into out, of exact lengths.
 pub fn encode_words(depth: u32, g: &[u32], t: &[u32], t2: &[u32], m: &[u32], out: &mut [u32])
-    requires { ⌜ Encodes depth (now g) (now t) (now t2) (now m) (length (now out)) ⌝ }
+    requires { ⌜ EncodeInput depth (now g) (now t) (now t2) (now m) (length (now out)) ⌝ }
     ensures { λ _. ⌜ now (out .exit) ≡ codeword depth (now (g .entry)) (now (t .entry)) (now (t2 .entry)) (now (m .entry)) ⌝ }
 {
     spread::spread(m, g, out);

@@ -13,7 +13,7 @@ use Rattle.algebra.specs.Words.{𝔽₁}
 use Rattle.algebra.specs.WordLists.{elements, toWords}
 use Rattle.residue.specs.Residues.{P, el}
 use Rattle.inversion.specs.Strides.{stride-within, stride-back}
-use Rattle.code.specs.Encoding.{Encodes}
+use Rattle.code.specs.Encoding.{EncodeInput}
 use Rattle.code.specs.Steps.{times}
 use Rattle.code.proofs.Spreads.{spreaded, length-spreaded, spread-part}
 use Rattle.decode.specs.Steps.{SpreadLent, MessageLent}
@@ -75,5 +75,5 @@ module _ (d : ℕ) (g t t' w : List ℕ) (𝓐 : MessageLent d g t t' w) where
   abbrev pub message : List ℕ
   message = take (2 ^ d) w
 
-  pub encodes : Encodes d g t t' message (length w)
+  pub encodes : EncodeInput d g t t' message (length w)
   encodes = record { coding = 𝓐 .coding; message = length-message (2 ^ d) g w spreading; words = 𝓐 .message; size = 𝓐 .size }

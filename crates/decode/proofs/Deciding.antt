@@ -18,7 +18,7 @@ use Rattle.foldable.specs.Encode.{length-encode}
 use Rattle.residue.specs.Residues.{P, F}
 use Rattle.residue.specs.Scans.{allSame}
 use Rattle.parameters.specs.Lent.{lent, codeword}
-use Rattle.undo.specs.Steps.{Decodes, decoded}
+use Rattle.undo.specs.Steps.{DecodeInput, decoded}
 use Rattle.job.specs.declared.Answer.the-variants.{Done, Refused}
 use Rattle.job.specs.declared.Refusal.the-variants.{NoCodeword}
 use Rattle.decode.specs.Decoding.{Settled, message, none}
@@ -33,7 +33,7 @@ unfolding all₂
 same-self [] = refl
 same-self (x ∷ v) = ap₂ _&&_ (eq-eqb x x refl) (same-self v)
 
-module _ (d : ℕ) (g t t' b : List ℕ) (k : ℕ) (𝓓 : Decodes d g t t' b k) where
+module _ (d : ℕ) (g t t' b : List ℕ) (k : ℕ) (𝓓 : DecodeInput d g t t' b k) where
   length-block : length (elements 𝔽₁ b) ≡ length (elements 𝔽₁ g) * 2 ^ d
   length-block = length-elements 𝔽₁ b ∙ 𝓓 .size ∙ ap (λ n. n * 2 ^ d) (sym (length-elements 𝔽₁ g))
 
@@ -64,7 +64,7 @@ module _ (d : ℕ) (g t t' b : List ℕ) (k : ℕ) (𝓓 : Decodes d g t t' b k)
   pub found : (old out : List ℕ) → allSame coded b ≡ true → out ≡ decoded d g t t' b → Settled d g t t' b old Done out
   found old out e q =
       message refl (ap length q ∙ length-decoded) (rw q low-decoded)
-      (ap (λ m. encode F (lent g t t') d (elements 𝔽₁ m)) q ∙ sym (elements-words 𝔽₁ _) ∙ ap (elements 𝔽₁) (same-is coded b (sym length-coded) e))
+      (ap (codeword d g t t') q ∙ same-is coded b (sym length-coded) e)
 
   codeword-same : Codeword F (lent g t t') d (elements 𝔽₁ b) → coded ≡ b
   unfolding decoded

@@ -7,13 +7,13 @@ use lib.Dec.{eqb}
 use lib.ListN.{length, replicate}
 use Rattle.algebra.specs.Words.{𝔽₁}
 use Rattle.algebra.specs.WordLists.{Low, elements}
-use Rattle.foldable.specs.Code.{encode, Codeword}
+use Rattle.foldable.specs.Code.{Codeword}
 use Rattle.job.specs.declared.Answer.{Answer}
 use Rattle.job.specs.Outcome.{Outcome, refused, done, outcome}
 use Rattle.job.specs.Limits.{blockSize}
 use Rattle.residue.specs.Residues.{P, F}
 use Rattle.residue.specs.Scans.{allBelow}
-use Rattle.parameters.specs.Lent.{lent}
+use Rattle.parameters.specs.Lent.{lent, codeword}
 use Rattle.parameters.specs.Parameters.{rowLengths, rowWords, judgeRow}
 
 -- of the lengths of g, T, T', block, result and work buffer
@@ -27,7 +27,7 @@ judgeDecoding d c g t t' b m k =
 
 -- answer r and result out for a block for which none of these is due: out is a message whose codeword it is; or it is no codeword, and out is as it was
 pub data Settled (d : ℕ) (g t t' b old : List ℕ) (r : Answer) (out : List ℕ) : Type 0 where
-  message : outcome r ≡ done tt → length out ≡ 2 ^ d → Low P out → encode F (lent g t t') d (elements 𝔽₁ out) ≡ elements 𝔽₁ b → Settled d g t t' b old r out
+  message : outcome r ≡ done tt → length out ≡ 2 ^ d → Low P out → codeword d g t t' out ≡ b → Settled d g t t' b old r out
   none : outcome r ≡ refused 8 → (Codeword F (lent g t t') d (elements 𝔽₁ b) → ⊥) → out ≡ old → Settled d g t t' b old r out
 
 -- answer r, result out and work buffer work, which were old and space

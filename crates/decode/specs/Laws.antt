@@ -13,8 +13,8 @@ use Rattle.algebra.specs.Tests.{and-both}
 use Rattle.algebra.specs.Vector.{Vectors, vectors}
 use Rattle.algebra.specs.Words.{𝔽₁}
 use Rattle.algebra.specs.WordLaws.{el-apart}
-use Rattle.algebra.specs.WordLists.{Low, elements, toWords, length-elements, words-elements}
-use Rattle.foldable.specs.Code.{encode, Codeword}
+use Rattle.algebra.specs.WordLists.{Low, elements, toWords, length-elements, elements-words, words-elements}
+use Rattle.foldable.specs.Code.{Codeword}
 use Rattle.foldable.specs.Decode.{Decoder, rowDecoder, unique-decoded}
 use Rattle.job.specs.declared.Answer.{Answer}
 use Rattle.job.specs.Outcome.{Outcome, refused, done, outcome, require, _⨾_}
@@ -24,10 +24,10 @@ use Rattle.job.specs.LimitLaws.{rate-least, rate-most}
 use Rattle.residue.specs.Residues.{P, F, K, el, inv}
 use Rattle.residue.specs.Scans.{allBelow, noneZero, allDiffer}
 use Rattle.residue.specs.ScanLaws.{all-below, none-zero, all-differ}
-use Rattle.parameters.specs.Lent.{lent}
+use Rattle.parameters.specs.Lent.{lent, codeword}
 use Rattle.parameters.specs.Parameters.{limits, rowLengths, rowWords}
 use Rattle.parameters.specs.ParameterLaws.{judge-number, within, row-lengths, lent-coding}
-use Rattle.undo.specs.Steps.{Decodes}
+use Rattle.undo.specs.Steps.{DecodeInput}
 use Rattle.decode.specs.Decoding.{decodeLengths, judgeDecoding, Settled, message, none, Decoded, refusal, settled}
 
 infixr 71 _⊛_
@@ -40,7 +40,7 @@ decoding-most d c g t t' b m k n =
     judge-number (λ n. n ≤ 6) (λ k lo hi. hi) d c g t t' (decodeLengths d c (length g) (length t) (length t') (length b) m k) (rowWords g t t' && allBelow b)
 
 -- no refusal from 1 to 6 is due
-pub decodes : (d c : ℕ) (g t t' b : List ℕ) (m k : ℕ) → judgeDecoding d c g t t' b m k ≡ done tt → Decodes d g t t' b k × (m ≡ 2 ^ d)
+pub decodes : (d c : ℕ) (g t t' b : List ℕ) (m k : ℕ) → judgeDecoding d c g t t' b m k ≡ done tt → DecodeInput d g t t' b k × (m ≡ 2 ^ d)
 unfolding judgeDecoding decodeLengths
 decodes d c g t t' b m k e =
     let o = both (limits d c) e in
@@ -78,19 +78,19 @@ unfolding elements
 decoder [] t t' l h n = absurd (omega arith)
 decoder (x ∷ g) t t' l h n = rowDecoder F (el x) (elements 𝔽₁ g) _ _ (el-apart P K (𝔽₁ .words) x n (l .low 0 h))
 
-module _ (d : ℕ) (g t t' b : List ℕ) (k : ℕ) (𝓓 : Decodes d g t t' b k) where
+module _ (d : ℕ) (g t t' b : List ℕ) (k : ℕ) (𝓓 : DecodeInput d g t t' b k) where
   -- words whose codeword the block is
-  codeword-of : (m : List ℕ) → length m ≡ 2 ^ d → encode F (lent g t t') d (elements 𝔽₁ m) ≡ elements 𝔽₁ b → Codeword F (lent g t t') d (elements 𝔽₁ b)
-  codeword-of m l e = record { message = elements 𝔽₁ m; sized = length-elements 𝔽₁ m ∙ l ∙ sym (one-mul (2 ^ d)); encodes = e }
+  codeword-of : (m : List ℕ) → length m ≡ 2 ^ d → codeword d g t t' m ≡ b → Codeword F (lent g t t') d (elements 𝔽₁ b)
+  codeword-of m l e = record { message = elements 𝔽₁ m; sized = length-elements 𝔽₁ m ∙ l ∙ sym (one-mul (2 ^ d)); encodes = sym (elements-words 𝔽₁ _) ∙ ap (elements 𝔽₁) e }
 
   one-message : (m n : List ℕ) → length m ≡ 2 ^ d → length n ≡ 2 ^ d → Low P m → Low P n
-      → encode F (lent g t t') d (elements 𝔽₁ m) ≡ elements 𝔽₁ b → encode F (lent g t t') d (elements 𝔽₁ n) ≡ elements 𝔽₁ b → m ≡ n
+      → codeword d g t t' m ≡ b → codeword d g t t' n ≡ b → m ≡ n
   unfolding codeword-of
   one-message m n lm ln p q x y =
       let same = unique-decoded F (lent g t t') 1 _ (decoder g t t' (𝓓 .coding .row) (omega (arith, 𝓓 .narrow)) (𝓓 .unit)) d (𝓓 .coding .legal) (elements 𝔽₁ b) (codeword-of m lm x) (codeword-of n ln y) in
       sym (words-elements 𝔽₁ m p) ∙ ap (toWords 𝔽₁) same ∙ words-elements 𝔽₁ n q
 
-  settled-message : (old : List ℕ) (r : Answer) (out m : List ℕ) → Settled d g t t' b old r out → length m ≡ 2 ^ d → Low P m → encode F (lent g t t') d (elements 𝔽₁ m) ≡ elements 𝔽₁ b
+  settled-message : (old : List ℕ) (r : Answer) (out m : List ℕ) → Settled d g t t' b old r out → length m ≡ 2 ^ d → Low P m → codeword d g t t' m ≡ b
       → (outcome r ≡ done tt) × (out ≡ m)
   settled-message old r out m (message a l p e) lm q f = (a, one-message out m l lm p q e f)
   settled-message old r out m (none a n s) lm q f = absurd (n (codeword-of m lm f))
@@ -111,7 +111,7 @@ module _ (d c : ℕ) (g t t' b old space : List ℕ) where
   abbrev judged : Outcome (Unit {0})
   judged = judgeDecoding d c g t t' b (length old) (length space)
 
-  known : judged ≡ done tt → Decodes d g t t' b (length space)
+  known : judged ≡ done tt → DecodeInput d g t t' b (length space)
   known e = decodes d c g t t' b (length old) (length space) e .0
 
   -- the contract determines the answer, the result and the work buffer
@@ -130,7 +130,7 @@ module _ (d c : ℕ) (g t t' b old space : List ℕ) where
     exactly (settled j' s w) = settled-exactly d g t t' b (length space) (known j) old r out s
 
     -- and the message of the block is the result
-    pub gives : (m : List ℕ) → length m ≡ 2 ^ d → Low P m → encode F (lent g t t') d (elements 𝔽₁ m) ≡ elements 𝔽₁ b → Result r out work → (outcome r ≡ done tt) × (out ≡ m)
+    pub gives : (m : List ℕ) → length m ≡ 2 ^ d → Low P m → codeword d g t t' m ≡ b → Result r out work → (outcome r ≡ done tt) × (out ≡ m)
     gives m l p e (refusal n j' a o w) = absurd (let z : _≡_ {A = ℕ} 0 1 = cc in omega arith)
     gives m l p e (settled j' s w) = settled-message d g t t' b (length space) (known j) old r out m s l p e
 

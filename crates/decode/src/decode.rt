@@ -7,7 +7,7 @@ ghost use Rattle.job.specs.Outcome.{outcome};
 ghost use Rattle.residue.specs.Scans.{allSame};
 ghost use Rattle.parameters.specs.Lent.{codeword};
 ghost use Rattle.parameters.specs.Parameters.{inLimits};
-ghost use Rattle.undo.specs.Steps.{Decodes, decoded};
+ghost use Rattle.undo.specs.Steps.{DecodeInput, decoded};
 ghost use Rattle.decode.specs.Decoding.{decodeLengths, judgeDecoding, Settled, Decoded};
 use crate::again;
 use job::Answer;
@@ -25,7 +25,7 @@ fn is_codeword(
     block: &[u32],
     work: &mut [u32],
 ) -> bool
-    requires { ⌜ Decodes depth (now g) (now t) (now t2) (now block) (length (now work)) ⌝ }
+    requires { ⌜ DecodeInput depth (now g) (now t) (now t2) (now block) (length (now work)) ⌝ }
     ensures { λ r. ⌜ r ≡ allSame (codeword depth (now (g .entry)) (now (t .entry)) (now (t2 .entry)) (decoded depth (now (g .entry)) (now (t .entry)) (now (t2 .entry)) (now (block .entry)))) (now (block .entry)) ⌝ }
 {
     message::message_of(depth, g, t, t2, block, work);
@@ -43,7 +43,7 @@ fn give(
     out: &mut [u32],
     work: &mut [u32],
 )
-    requires { ⌜ (Decodes depth (now g) (now t) (now t2) (now block) (length (now work))) × (length (now out) ≡ 2 ^ depth) ⌝ }
+    requires { ⌜ (DecodeInput depth (now g) (now t) (now t2) (now block) (length (now work))) × (length (now out) ≡ 2 ^ depth) ⌝ }
     ensures { λ _. ⌜ now (out .exit) ≡ decoded depth (now (g .entry)) (now (t .entry)) (now (t2 .entry)) (now (block .entry)) ⌝ }
 {
     message::message_of(depth, g, t, t2, block, work);
@@ -69,7 +69,7 @@ fn settle(
     out: &mut [u32],
     work: &mut [u32],
 ) -> Answer
-    requires { ⌜ (Decodes depth (now g) (now t) (now t2) (now block) (length (now work))) × (length (now out) ≡ 2 ^ depth) ⌝ }
+    requires { ⌜ (DecodeInput depth (now g) (now t) (now t2) (now block) (length (now work))) × (length (now out) ≡ 2 ^ depth) ⌝ }
     ensures { λ r. ⌜ (Settled depth (now (g .entry)) (now (t .entry)) (now (t2 .entry)) (now (block .entry)) (now (out .entry)) r (now (out .exit))) × (now (work .exit) ≡ replicate (length (now (work .entry))) 0) ⌝ }
 {
     if !is_codeword(depth, g, t, t2, block, work) {

@@ -8,12 +8,12 @@ use Rattle.foldable.specs.Code as code
 use Rattle.foldable.specs.Code.{Code, size, line, slope, foldAlong}
 use Rattle.residue.specs.Residues.{F, K, Element, el, inv, _⊞_, _⊟_, _⊠_}
 use Rattle.fold.specs.Job.{foldWords}
-use Rattle.fold.specs.Steps.{through}
+use Rattle.fold.specs.Steps.{lineBy}
 
 -- the line through (t, u) and (t', v), by the inverse of t' - t
-pub through-line : (a t t' u v : Element) → through a t (inv (t' ⊟ t)) u v ≡ line F a t t' u v
+pub line-by : (a t t' u v : Element) → lineBy a t (inv (t' ⊟ t)) u v ≡ line F a t t' u v
 unfolding line slope
-through-line a t t' u v = ap (λ x. u ⊞ (a ⊟ t) ⊠ x) (K .mul-comm (inv (t' ⊟ t)) (v ⊟ u))
+line-by a t t' u v = ap (λ x. u ⊞ (a ⊟ t) ⊠ x) (K .mul-comm (inv (t' ⊟ t)) (v ⊟ u))
 
 -- where a code has the lent diagonals at level i
 pub fold-words : (C : Code F) (i n : ℕ) (t t2 w : List ℕ) (a : ℕ) → C .T i ≡ elements 𝔽₁ t → C .T' i ≡ elements 𝔽₁ t2 → n ≡ size F C i

@@ -176,7 +176,7 @@ decodes-w : Holds (decodes w m)
 unfolding judgeDecoding decodeLengths rowLengths rowWords rateOk all all₂ F₁ W₁ elements toWords diagonal encode generator block times zip of addZ mulZ
 decodes-w old space p q =
     settled (nothing-due w old space p q refl)
-    (message refl refl (low-cons (lit< tt) (low-cons (lit< tt) (low-none P))) (sym (elements-words 𝔽₁ _) ∙ ap (elements 𝔽₁) encodes)) refl
+    (message refl refl (low-cons (lit< tt) (low-cons (lit< tt) (low-none P))) encodes) refl
 
 refuses-spoilt : Holds (refuses spoilt)
 unfolding judgeDecoding decodeLengths rowLengths rowWords rateOk all all₂

@@ -15,7 +15,7 @@ use Rattle.basefold.specs.Layout.{finalAt, openingSize}
 use Rattle.job.specs.Outcome.{done}
 use Rattle.job.specs.OutcomeLaws.{require-done, both}
 use Rattle.job.specs.LimitLaws.{rate-most}
-use Rattle.polynomial.specs.Evaluation.{Evaluates}
+use Rattle.polynomial.specs.Evaluation.{EvaluateInput}
 use Rattle.residue.specs.Residues.{P}
 use Rattle.residue.specs.Scans.{allBelow}
 use Rattle.residue.specs.ScanLaws.{all-below}
@@ -55,7 +55,7 @@ write-input d c g t t' m z r o s e =
     }
 
 module _ (d : ℕ) (g t t' m z r : List ℕ) (o s : ℕ) (𝓦 : WriteInput d g t t' m z r o s) where
-  pub value-input : (y : List ℕ) → length y ≡ d → Low P y → Evaluates m y
+  pub value-input : (y : List ℕ) → length y ≡ d → Low P y → EvaluateInput m y
   value-input y e l = record { size = 𝓦 .message ∙ ap (λ k. 2 ^ k) (sym e); message = 𝓦 .message-low; point = l }
 
   pub begun : (old work : List ℕ) → work ≡ m ++ drop (length m) old → take (2 ^ d) work ≡ m

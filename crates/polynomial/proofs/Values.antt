@@ -18,21 +18,21 @@ use Rattle.multilinear.specs.Polynomial.{poly, form-nil, poly-top}
 use Rattle.residue.specs.Residues.{K, el, word, _⊞_, _⊠_}
 use Rattle.residue.specs.Scans.{allBelow}
 use Rattle.residue.specs.ScanLaws.{all-below}
-use Rattle.polynomial.specs.Evaluation.{Evaluates, evaluateLengths, judgeEvaluating}
+use Rattle.polynomial.specs.Evaluation.{EvaluateInput, evaluateLengths, judgeEvaluating}
 use Rattle.polynomial.specs.EvaluationLaws.{lower, half-is, length-lower, rest, left-input, right-input}
 
 -- the top variable
 abbrev pub top : List ℕ → ℕ
 top z = getD z (length z - 1) 0
 
-pub one-word : (m z : List ℕ) → Evaluates m z → length z ≡ 0 → (0 < length m) × (getD m 0 0 ≡ word (poly K (elements 𝔽₁ m) (elements 𝔽₁ z)))
+pub one-word : (m z : List ℕ) → EvaluateInput m z → length z ≡ 0 → (0 < length m) × (getD m 0 0 ≡ word (poly K (elements 𝔽₁ m) (elements 𝔽₁ z)))
 unfolding elements
 one-word m [] 𝓔 e =
     let long : 0 < length m = omega (arith, 𝓔 .size) in
     (long, sym (ap word (form-nil K _ ∙ getD-elements 𝔽₁ m 0) ∙ 𝔽₁ .words .val-el (getD m 0 0) (𝓔 .message .low 0 long)))
 one-word m (x ∷ z) 𝓔 e = absurd (omega arith)
 
-module _ (m z : List ℕ) (𝓔 : Evaluates m z) (lo : 0 < length z) where
+module _ (m z : List ℕ) (𝓔 : EvaluateInput m z) (lo : 0 < length z) where
   last : lower z ++ (top z ∷ []) ≡ z
   last =
       let q : suc (length z - 1) ≡ length z = omega arith in
@@ -69,7 +69,7 @@ module _ (m z : List ℕ) (𝓔 : Evaluates m z) (lo : 0 < length z) where
       (p ∙ ap (λ x. word (el (getD m 0 0) ⊞ el x ⊠ el (getD m 1 0))) (sym last-is))
 
 -- the job's tests have passed
-pub evaluates : (d : ℕ) (m z : List ℕ) → judgeEvaluating d m z ≡ done tt → Evaluates m z
+pub evaluates : (d : ℕ) (m z : List ℕ) → judgeEvaluating d m z ≡ done tt → EvaluateInput m z
 unfolding judgeEvaluating evaluateLengths
 evaluates d m z e =
     let a = require-done (depthOk d) 1 e in

@@ -32,7 +32,7 @@ abbrev pub evaluation : ℕ → List ℕ → List ℕ → Outcome ℕ
 evaluation d m z = judgeEvaluating d m z ⨾ done (word (poly K (elements 𝔽₁ m) (elements 𝔽₁ z)))
 
 -- what the work is lent: a word for each set of variables
-pub record Evaluates (m z : List ℕ) : Type 0 where
+pub record EvaluateInput (m z : List ℕ) : Type 0 where
   pub size : length m ≡ 2 ^ length z
   pub message : Low P m
   pub point : Low P z

@@ -8,13 +8,13 @@ use lib.ListN.{length, take, drop, length-take, length-drop}
 use lib.Seq.{take-all}
 use Rattle.algebra.specs.WordLists.{Low, low-take, low-drop}
 use Rattle.residue.specs.Residues.{P}
-use Rattle.polynomial.specs.Evaluation.{Evaluates}
+use Rattle.polynomial.specs.Evaluation.{EvaluateInput}
 
 -- the variables below the top one
 abbrev pub lower : List ℕ → List ℕ
 lower z = take (length z - 1) z
 
-module _ (m z : List ℕ) (𝓔 : Evaluates m z) (lo : 0 < length z) where
+module _ (m z : List ℕ) (𝓔 : EvaluateInput m z) (lo : 0 < length z) where
   twice : length m ≡ 2 ^ (length z - 1) + 2 ^ (length z - 1)
   twice = let q : length z ≡ suc (length z - 1) = omega arith in 𝓔 .size ∙ ap (λ k. 2 ^ k) q ∙ two-pow-succ (length z - 1)
 
@@ -30,7 +30,7 @@ module _ (m z : List ℕ) (𝓔 : Evaluates m z) (lo : 0 < length z) where
   pub rest : take (length m - length m / 2) (drop (length m / 2) m) ≡ drop (length m / 2) m
   rest = take-all (length m - length m / 2) (drop (length m / 2) m) (omega (arith, length-drop (length m / 2) m))
 
-  pub left-input : Evaluates (take (length m / 2) m) (lower z)
+  pub left-input : EvaluateInput (take (length m / 2) m) (lower z)
   left-input =
       record {
         size = length-take (length m / 2) m ∙ omega (arith, half-is, twice) ∙ half-is ∙ ap (λ k. 2 ^ k) (sym length-lower);
@@ -38,7 +38,7 @@ module _ (m z : List ℕ) (𝓔 : Evaluates m z) (lo : 0 < length z) where
         point = lower-low;
       }
 
-  pub right-input : Evaluates (take (length m - length m / 2) (drop (length m / 2) m)) (lower z)
+  pub right-input : EvaluateInput (take (length m - length m / 2) (drop (length m / 2) m)) (lower z)
   right-input =
       record {
         size = ap length rest ∙ length-drop (length m / 2) m ∙ omega (arith, half-is, twice) ∙ half-is ∙ ap (λ k. 2 ^ k) (sym length-lower);

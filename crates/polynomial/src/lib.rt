@@ -9,7 +9,7 @@ ghost use Rattle.job.specs.Limits.{depthOk};
 ghost use Rattle.multilinear.specs.Polynomial.{poly};
 ghost use Rattle.residue.specs.Residues.{K, word};
 ghost use Rattle.residue.specs.Scans.{allBelow};
-ghost use Rattle.polynomial.specs.Evaluation.{Evaluates, evaluateLengths, judgeEvaluating, evaluation, evaluationOutcome};
+ghost use Rattle.polynomial.specs.Evaluation.{EvaluateInput, evaluateLengths, judgeEvaluating, evaluation, evaluationOutcome};
 use job::Answer;
 use job::Refusal;
 use residue::Residue;
@@ -24,7 +24,7 @@ pub enum Evaluation {
 
 // Of two words and one variable: the first word plus the variable times the second.
 fn pair(m: &[u32], z: &[u32]) -> Residue
-    requires { ⌜ Evaluates (now m) (now z) × (length (now z) ≡ 1) ⌝ }
+    requires { ⌜ EvaluateInput (now m) (now z) × (length (now z) ≡ 1) ⌝ }
     ensures { λ v. ⌜ v .0 ≡ word (poly K (elements 𝔽₁ (now (m .entry))) (elements 𝔽₁ (now (z .entry)))) ⌝ }
 {
     Residue::new(m[0]).plus_product(Residue::new(z[0]), Residue::new(m[1]))
@@ -33,7 +33,7 @@ fn pair(m: &[u32], z: &[u32]) -> Residue
 // By the top variable: the value of the left half plus that variable times the value of the right half. Two words are their own halves' values:
 // without that case there would be twice as many calls.
 pub fn value(m: &[u32], z: &[u32]) -> Residue
-    requires { ⌜ Evaluates (now m) (now z) ⌝ }
+    requires { ⌜ EvaluateInput (now m) (now z) ⌝ }
     ensures { λ v. ⌜ v .0 ≡ word (poly K (elements 𝔽₁ (now (m .entry))) (elements 𝔽₁ (now (z .entry)))) ⌝ }
 {
     let d = z.len();

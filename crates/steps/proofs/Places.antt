@@ -12,7 +12,7 @@ use Rattle.algebra.specs.Words.{𝔽₁}
 use Rattle.algebra.specs.WordLists.{low-take, elements, toWords, length-words, length-elements}
 use Rattle.basefold.specs.Descent.{legal-at}
 use Rattle.basefold.specs.Layout.{roundAt, blockAt}
-use Rattle.code.specs.Encoding.{Encodes}
+use Rattle.code.specs.Encoding.{EncodeInput}
 use Rattle.foldable.specs.Encode.{length-encode}
 use Rattle.job.specs.Limits.{blockSize}
 use Rattle.layout.specs.LayoutLaws.{round-within, block-within}
@@ -44,7 +44,7 @@ module _ (d i : ℕ) (g t t' o s : List ℕ) (𝓑 : GiveBlockInput d i g t t' (
   pub end-within : a + k ≤ length o
   end-within = omega (arith, q, 𝓑 .size, block-within (length g) d i (𝓑 .level))
 
-  pub encode-input : Encodes i g t t' (take n s) (length (take (a + k - a) (drop a o)))
+  pub encode-input : EncodeInput i g t t' (take n s) (length (take (a + k - a) (drop a o)))
   encode-input =
       record {
         coding = coding-at d i (let l = 𝓑 .level in omega arith) (𝓑 .coding);

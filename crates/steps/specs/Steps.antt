@@ -13,7 +13,7 @@ use Rattle.multilinear.specs.Polynomial.{poly}
 use Rattle.multilinear.specs.Rounds.{h}
 use Rattle.parameters.specs.Lent.{Coding}
 use Rattle.polynomial.specs.Eq.{factor}
-use Rattle.polynomial.specs.Evaluation.{Evaluates}
+use Rattle.polynomial.specs.Evaluation.{EvaluateInput}
 use Rattle.residue.specs.declared.Residue.{Residue}
 use Rattle.residue.specs.Residues.{P, K, Element, el, elem, word, _⊠_, Low}
 
@@ -27,7 +27,7 @@ roundOf w M y X = w ⊠ h K 0 M y [] (length y) X
 
 -- a message that has a top variable
 pub record HalvesInput (z m : List ℕ) : Type 0 where
-  pub value : Evaluates m z
+  pub value : EvaluateInput m z
   pub top : 0 < length z
 
 -- the values of both halves of m at the variables below the top one of z

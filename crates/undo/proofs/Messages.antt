@@ -22,7 +22,7 @@ use Rattle.residue.specs.ResidueLaws.{is-low, stands}
 use Rattle.inversion.specs.Inversion.{gap, gapInverses}
 use Rattle.inversion.specs.InversionLaws.{length-rows, getD-rows}
 use Rattle.inversion.specs.Strides.{stride-place, stride-within}
-use Rattle.undo.specs.Steps.{ColumnLent, ColumnCode, ColumnUndone, Decodes, decoded}
+use Rattle.undo.specs.Steps.{ColumnLent, ColumnCode, ColumnUndone, DecodeInput, decoded}
 
 infixr 71 _⊛_
 open Vectors (vectors K) using (_⊛_)
@@ -38,7 +38,7 @@ elements-pick n k (suc b) w =
     elements-append 𝔽₁ (take k w) (pick n k b (drop n w))
     ∙ ap₂ _++_ (elements-take 𝔽₁ k w) (elements-pick n k b (drop n w) ∙ ap (pick n k b) (elements-drop 𝔽₁ n w))
 
-module _ (d : ℕ) (g t t' b : List ℕ) (k : ℕ) (𝓓 : Decodes d g t t' b k) where
+module _ (d : ℕ) (g t t' b : List ℕ) (k : ℕ) (𝓓 : DecodeInput d g t t' b k) where
   some : 0 < length g
   some = omega (arith, 𝓓 .narrow)
 

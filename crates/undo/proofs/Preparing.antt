@@ -14,9 +14,9 @@ use Rattle.job.specs.Limits.{diagonalsSize, maxMessage}
 use Rattle.inversion.specs.Inversion.{gapInverses, Diagonals}
 use Rattle.inversion.specs.InversionLaws.{length-rows}
 use Rattle.inversion.specs.Strides.{stride-within}
-use Rattle.undo.specs.Steps.{Decodes}
+use Rattle.undo.specs.Steps.{DecodeInput}
 
-module _ (d : ℕ) (g t t' b work : List ℕ) (𝓓 : Decodes d g t t' b (length work)) (n : ℕ) (en : n ≡ 2 ^ d) where
+module _ (d : ℕ) (g t t' b work : List ℕ) (𝓓 : DecodeInput d g t t' b (length work)) (n : ℕ) (en : n ≡ 2 ^ d) where
   pub some : 1 ≤ n
   some = omega (arith, pow-pos d)
 

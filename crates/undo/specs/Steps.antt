@@ -69,7 +69,7 @@ pub record ColumnUndone (d a : ℕ) (x : Residue) (c : ℕ) (t w out : List ℕ)
   pub column : (C : Code F) → ColumnCode d a c t w C → take (2 ^ d) out ≡ toWords 𝔽₁ (undo F C (λ v. elem x ⊛ v) d (elements 𝔽₁ (take (2 ^ d) w)))
 
 -- what the work is lent: exact lengths, words below the modulus, a legal row and diagonals; k is the length of the work buffer
-pub record Decodes (d : ℕ) (g t t' b : List ℕ) (k : ℕ) : Type 0 where
+pub record DecodeInput (d : ℕ) (g t t' b : List ℕ) (k : ℕ) : Type 0 where
   pub coding : Coding d g t t'
   pub depth : d ≤ maxDepth
   pub narrow : 2 ≤ length g

@@ -5,14 +5,14 @@ ghost use Prim.Native.Nat.{_+_, _-_, _^_};
 ghost use lib.ListN.{length, take};
 ghost use Rattle.foldable.specs.Columns.{pick};
 ghost use Rattle.inversion.specs.Inversion.{gapInverses};
-ghost use Rattle.undo.specs.Steps.{Decodes, decoded};
+ghost use Rattle.undo.specs.Steps.{DecodeInput, decoded};
 use crate::column;
 use crate::levels;
 use residue::Residue;
 
 // The first column of the block, and behind it the inverses of its differences.
 fn prepare(depth: u32, g: &[u32], t: &[u32], t2: &[u32], block: &[u32], work: &mut [u32])
-    requires { ⌜ Decodes depth (now g) (now t) (now t2) (now block) (length (now work)) ⌝ }
+    requires { ⌜ DecodeInput depth (now g) (now t) (now t2) (now block) (length (now work)) ⌝ }
     ensures { λ _. ⌜ take (2 ^ depth + (2 ^ depth - 1)) (now (work .exit)) ≡ pick (length (now (g .entry))) 1 (2 ^ depth) (now (block .entry)) ++ gapInverses (length (now (g .entry))) (2 ^ depth - 1) (now (t .entry)) (now (t2 .entry)) ⌝ }
 {
     let c = g.len();
@@ -24,7 +24,7 @@ fn prepare(depth: u32, g: &[u32], t: &[u32], t2: &[u32], block: &[u32], work: &m
 
 // The message, in front of work.
 pub fn message_of(depth: u32, g: &[u32], t: &[u32], t2: &[u32], block: &[u32], work: &mut [u32])
-    requires { ⌜ Decodes depth (now g) (now t) (now t2) (now block) (length (now work)) ⌝ }
+    requires { ⌜ DecodeInput depth (now g) (now t) (now t2) (now block) (length (now work)) ⌝ }
     ensures { λ _. ⌜ take (2 ^ depth) (now (work .exit)) ≡ decoded depth (now (g .entry)) (now (t .entry)) (now (t2 .entry)) (now (block .entry)) ⌝ }
 {
     prepare(depth, g, t, t2, block, work);

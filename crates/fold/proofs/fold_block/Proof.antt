@@ -7,7 +7,7 @@ use Rattle.algebra.specs.Words.{𝔽₁}
 use Rattle.algebra.specs.WordLists.{toWords, low-words}
 use Rattle.residue.specs.Residues.{elem}
 use Rattle.inversion.specs.InversionLaws.{length-rows}
-use Rattle.fold.specs.Steps.{throughAll}
+use Rattle.fold.specs.Steps.{linesBy}
 use Rattle.fold.proofs.Straight.{drawn}
 use borrow.Author.Needs.{needs}
 use Rattle.fold.proofs.fold_block.Statement.{statement}
@@ -37,7 +37,7 @@ returns c =
     let made = c .before .before .before .before .before .before .invert-gaps in
     let s′ = made .last .1 .1 .1 .0 in
     c .before .before .draw .ensures
-    ∙ ap (λ n. toWords 𝔽₁ (row n (throughAll n (elem (a .challenge)) (a .t .now) (a .block .now) s′))) (sized (c .before .before .before .before .before .before))
+    ∙ ap (λ n. toWords 𝔽₁ (row n (linesBy n (elem (a .challenge)) (a .t .now) (a .block .now) s′))) (sized (c .before .before .before .before .before .before))
     ∙ drawn (s .pre .0) (a .block .now) (s .pre .1) (a .challenge .0) s′ (made .ensures)
 
 pub fold-block-spec : {M : Type 1} → statement M

@@ -1,4 +1,4 @@
-use Rattle.fold.specs.Steps.{through, throughAll}
+use Rattle.fold.specs.Steps.{lineBy, linesBy}
 use Rattle.residue.specs.Residues.{el, elem, word}
 use Prim.Native.Nat.{_-_, _+_, _≤_}
 use lib.ListN.{length, getD}
@@ -14,7 +14,7 @@ use Rattle.fold.proofs.lines.draw.Statement.{statement}
 use Rattle.fold.proofs.lines.draw.Tie as tie
 
 abbrev Inv-loop : tie.InvT-loop
-Inv-loop t block challenge out₀ j₀ out j = (j ≤ length out₀) × (length out ≡ length out₀) × Filled j (toWords 𝔽₁ (row (length out₀) (throughAll (length out₀) (elem challenge) t block out₀))) out₀ out
+Inv-loop t block challenge out₀ j₀ out j = (j ≤ length out₀) × (length out ≡ length out₀) × Filled j (toWords 𝔽₁ (row (length out₀) (linesBy (length out₀) (elem challenge) t block out₀))) out₀ out
 
 abbrev μ-loop : tie.MeasureT-loop
 μ-loop t block challenge out₀ j₀ out j = length out₀ - j
@@ -59,11 +59,11 @@ loop-again c =
     let a = c .before .before .before .before .before .before .before .before .args in
     let l = c .before .before .before .before .loop in
     let n = length (a .out .now) in
-    let f = throughAll n (elem (a .challenge)) (a .t .now) (a .block .now) (a .out .now) in
+    let f = linesBy n (elem (a .challenge)) (a .t .now) (a .block .now) (a .out .now) in
     let old = filled-old (l .inv .2) (l .j) 0 (omega arith) in
     let v =
     c .word .ensures ∙ c .before .line-at .ensures
-    ∙ (λ k. word (through (elem (a .challenge)) (el (getD (a .t .now) (l .j) 0)) (el (old k)) (el (getD (a .block .now) (l .j) 0)) (el (getD (a .block .now) (l .inv .1 k + l .j) 0))))
+    ∙ (λ k. word (lineBy (elem (a .challenge)) (el (getD (a .t .now) (l .j) 0)) (el (old k)) (el (getD (a .block .now) (l .j) 0)) (el (getD (a .block .now) (l .inv .1 k + l .j) 0))))
     ∙ sym (getD-rows n f (l .j) (omega arith)) in
     let p = filled-turn 0 (omega arith) (length-rows n f) (l .inv .2) v in
     (omega arith, filled-length p, p)
