@@ -107,7 +107,7 @@ fn fold_block(t: &[u32], t2: &[u32], block: &[u32], challenge: Residue, out: &mu
     requires { ⌜ Diagonals 1 (length (now out)) (now t) (now t2) × (length (now block) ≡ length (now out) + length (now out)) × LowWords P (now block) × Low challenge ⌝ }
     ensures { λ _. ⌜ now (out .exit) ≡ foldWords (length (now (out .entry))) (now (t .entry)) (now (t2 .entry)) (now (block .entry)) (challenge .0) ⌝ }
 {
-    inversion::invert_gaps(1, t, t2, out);
+    inversion::invert_neighbours(t, t2, out);
     lines::draw(t, block, challenge, out);
 }
 

@@ -30,8 +30,20 @@ fn pair(m: &[u32], z: &[u32]) -> Residue
     Residue::new(m[0]).plus_product(Residue::new(z[0]), Residue::new(m[1]))
 }
 
-// By the top variable: the value of the left half plus that variable times the value of the right half. Two words are their own halves' values:
-// without that case there would be twice as many calls.
+// Of four words and two variables: by the top one, from the values of both halves.
+fn four(m: &[u32], z: &[u32]) -> Residue
+    requires { ⌜ EvaluateInput (now m) (now z) × (length (now z) ≡ 2) ⌝ }
+    ensures { λ v. ⌜ v .0 ≡ word (poly K (elements 𝔽₁ (now (m .entry))) (elements 𝔽₁ (now (z .entry)))) ⌝ }
+{
+    let top = z.len() - 1;
+    let half = m.len() / 2;
+    let left = pair(&m[..half], &z[..top]);
+    let right = pair(&m[half..], &z[..top]);
+    left.plus_product(Residue::new(z[top]), right)
+}
+
+// By the top variable: the value of the left half plus that variable times the value of the right half. Two words and four are cases of their
+// own: without them there would be four times as many calls.
 pub fn value(m: &[u32], z: &[u32]) -> Residue
     requires { ⌜ EvaluateInput (now m) (now z) ⌝ }
     ensures { λ v. ⌜ v .0 ≡ word (poly K (elements 𝔽₁ (now (m .entry))) (elements 𝔽₁ (now (z .entry)))) ⌝ }
@@ -42,6 +54,9 @@ pub fn value(m: &[u32], z: &[u32]) -> Residue
     }
     if d == 1 {
         return pair(m, z);
+    }
+    if d == 2 {
+        return four(m, z);
     }
     let top = d - 1;
     let half = m.len() / 2;

@@ -13,17 +13,17 @@ use borrow.Author.Needs.{needs}
 use Rattle.fold.proofs.fold_block.Statement.{statement}
 use Rattle.fold.proofs.fold_block.Tie as tie
 
-invert-gaps-requires : tie.Need-invert-gaps-requires
-invert-gaps-requires c κs = search needs
+invert-neighbours-requires : tie.Need-invert-neighbours-requires
+invert-neighbours-requires c κs = search needs
 
 -- the inverses are as many as the result's words
-sized : (c : tie.After-invert-gaps) → length (c .invert-gaps .last .1 .1 .1 .0) ≡ length (c .before .before .before .before .before .before .args .out .now)
-sized c = ap length (c .invert-gaps .ensures) ∙ length-rows _ _
+sized : (c : tie.After-invert-neighbours) → length (c .invert-neighbours .last .1 .1 .0) ≡ length (c .before .before .before .before .before .before .args .out .now)
+sized c = ap length (c .invert-neighbours .ensures) ∙ length-rows _ _
 
 draw-requires : tie.Need-draw-requires
 draw-requires c κs =
     let p = c .before .before .before .before .before .before .before .before .before .pre in
-    let made = c .before .before .before .invert-gaps .ensures in
+    let made = c .before .before .before .invert-neighbours .ensures in
     let same = sized (c .before .before .before) in
     (p .3, record { first = p .0 .first ∙ mul-one _ ∙ sym same; whole = p .1 ∙ ap (λ n. n + n) (sym same); low = p .0 .low; block = p .2; inverses = rw made (low-words 𝔽₁ _) })
 
@@ -34,11 +34,11 @@ returns : tie.Need-returns
 returns c =
     let s = c .before .before .before .before .before .before .before .before .before .before .before .before in
     let a = s .args in
-    let made = c .before .before .before .before .before .before .invert-gaps in
-    let s′ = made .last .1 .1 .1 .0 in
+    let made = c .before .before .before .before .before .before .invert-neighbours in
+    let s′ = made .last .1 .1 .0 in
     c .before .before .draw .ensures
     ∙ ap (λ n. toWords 𝔽₁ (row n (linesBy n (elem (a .challenge)) (a .t .now) (a .block .now) s′))) (sized (c .before .before .before .before .before .before))
     ∙ drawn (s .pre .0) (a .block .now) (s .pre .1) (a .challenge .0) s′ (made .ensures)
 
 pub fold-block-spec : {M : Type 1} → statement M
-fold-block-spec = tie.close (tie.spec invert-gaps-requires draw-requires same-length returns)
+fold-block-spec = tie.close (tie.spec invert-neighbours-requires draw-requires same-length returns)

@@ -13,6 +13,7 @@ use Rattle.polynomial.proofs.value.Reads as value
 use Rattle.polynomial.proofs.value.Kinds as value-kinds
 use Rattle.polynomial.proofs.+value.Lts-value as value-lts
 use Rattle.polynomial.proofs.pair.Reads as pair-reads
+use Rattle.polynomial.proofs.four.Reads as four-reads
 use Rattle.residue.proofs.Residue.new.Reads as new-reads
 use Rattle.residue.proofs.Residue.plus_product.Reads as plus-product-reads
 use Rattle.polynomial.proofs.+value.{statement}
@@ -28,7 +29,7 @@ abbrev value-below : ℕ → In 2 value-kinds.ps
 value-below t = and 2 value-kinds.ps (falls 2 value-kinds.ps _<_ μ-value t) value.Pre
 
 abbrev rs : ℕ → value-lts.Claims
-rs t = (new-reads.Asked, new-reads.Learnt, pair-reads.Asked, pair-reads.Learnt, value-below t, value.Post, plus-product-reads.Asked, plus-product-reads.Learnt)
+rs t = (new-reads.Asked, new-reads.Learnt, pair-reads.Asked, pair-reads.Learnt, four-reads.Asked, four-reads.Learnt, value-below t, value.Post, plus-product-reads.Asked, plus-product-reads.Learnt)
 
 value-shared-slice-read-new : (t : ℕ) → value-lts.Need-shared-slice-read-new (rs t) (value-at t) value.Post
 value-shared-slice-read-new t c = let s = c .before .before .before .before in let a = s .args in one-word (a .m .now) (a .z .now) (s .pre .1) (omega arith) .0
@@ -45,6 +46,12 @@ value-pair-requires t c κs = (c .before .before .before .before .pre .1, omega 
 value-returns-2 : (t : ℕ) → value-lts.Need-returns-2 (rs t) (value-at t) value.Post
 value-returns-2 t c = c .pair .ensures
 
+value-four-requires : (t : ℕ) → value-lts.Need-four-requires (rs t) (value-at t) value.Post
+value-four-requires t c κs = (c .before .before .before .before .before .pre .1, omega arith)
+
+value-returns-3 : (t : ℕ) → value-lts.Need-returns-3 (rs t) (value-at t) value.Post
+value-returns-3 t c = c .four .ensures
+
 value-sub-top : (t : ℕ) → value-lts.Need-sub-top (rs t) (value-at t) value.Post
 value-sub-top t c = omega arith
 
@@ -56,7 +63,7 @@ value-slice-aggregate-value-2 t c = simp length-take (omega arith)
 
 value-value-requires : (t : ℕ) → value-lts.Need-value-requires (rs t) (value-at t) value.Post
 value-value-requires t c κs =
-    let s = c .before .before .before .before .before .before in
+    let s = c .before .before .before .before .before .before .before in
     let a = s .args in
     (omega (arith, length-lower (a .m .now) (a .z .now) (s .pre .1) (omega arith)), left-input (a .m .now) (a .z .now) (s .pre .1) (omega arith))
 
@@ -77,7 +84,7 @@ value-slice-aggregate-value-3 t c = simp length-take (omega arith)
 
 value-value-requires-2 : (t : ℕ) → value-lts.Need-value-requires-2 (rs t) (value-at t) value.Post
 value-value-requires-2 t c κs =
-    let s = c .before .before .before .before .before .before .before .before .before in
+    let s = c .before .before .before .before .before .before .before .before .before .before in
     let a = s .args in
     (omega (arith, length-lower (a .m .now) (a .z .now) (s .pre .1) (omega arith)), right-input (a .m .now) (a .z .now) (s .pre .1) (omega arith))
 
@@ -88,14 +95,14 @@ value-shared-slice-read-new-2 : (t : ℕ) → value-lts.Need-shared-slice-read-n
 value-shared-slice-read-new-2 t c = omega arith
 
 value-new-requires-2 : (t : ℕ) → value-lts.Need-new-requires-2 (rs t) (value-at t) value.Post
-value-new-requires-2 t c κs = c .before .before .before .before .before .before .before .before .before .before .before .pre .1 .point .low _ (omega arith)
+value-new-requires-2 t c κs = c .before .before .before .before .before .before .before .before .before .before .before .before .pre .1 .point .low _ (omega arith)
 
 value-plus-product-requires : (t : ℕ) → value-lts.Need-plus-product-requires (rs t) (value-at t) value.Post
-value-plus-product-requires t c κs = (omega (arith, is-low _ (c .before .before .before .before .before .value .ensures)), rw (c .new2 .ensures) (c .before .before .before .before .before .before .before .before .before .before .before .before .pre .1 .point .low _ (omega arith)), omega (arith, is-low _ (c .before .before .value2 .ensures)))
+value-plus-product-requires t c κs = (omega (arith, is-low _ (c .before .before .before .before .before .value .ensures)), rw (c .new2 .ensures) (c .before .before .before .before .before .before .before .before .before .before .before .before .before .pre .1 .point .low _ (omega arith)), omega (arith, is-low _ (c .before .before .value2 .ensures)))
 
-value-returns-3 : (t : ℕ) → value-lts.Need-returns-3 (rs t) (value-at t) value.Post
-value-returns-3 t c =
-    let s = c .before .before .before .before .before .before .before .before .before .before .before .before .before in
+value-returns-4 : (t : ℕ) → value-lts.Need-returns-4 (rs t) (value-at t) value.Post
+value-returns-4 t c =
+    let s = c .before .before .before .before .before .before .before .before .before .before .before .before .before .before in
     let a = s .args in
     joined (a .m .now) (a .z .now) (s .pre .1) (omega arith) _ _ _ (c .before .before .before .before .before .before .value .ensures) (c .before .before .before .value2 .ensures)
     (c .plus-product .ensures ∙ ap (λ x. word (el (c .before .before .before .before .before .before .value .result .0) ⊞ el x ⊠ el (c .before .before .before .value2 .result .0))) (c .before .new2 .ensures))
@@ -109,6 +116,8 @@ pub +value-spec : {M : Type 1} → statement M
     (value-returns t)
     (value-pair-requires t)
     (value-returns-2 t)
+    (value-four-requires t)
+    (value-returns-3 t)
     (value-sub-top t)
     (value-slice-aggregate-value t)
     (value-slice-aggregate-value-2 t)
@@ -123,4 +132,4 @@ pub +value-spec : {M : Type 1} → statement M
     (value-shared-slice-read-new-2 t)
     (value-new-requires-2 t)
     (value-plus-product-requires t)
-    (value-returns-3 t)
+    (value-returns-4 t)
