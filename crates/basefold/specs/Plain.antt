@@ -24,7 +24,7 @@ module _ (F : Field) where
   pub carried-plain : (o : List R) (d : ℕ) → finalAt d < length o → carried F 0 o d ≡ getD o (finalAt d) 𝟘 ∷ []
   carried-plain o d h = ap (take 1) (drop-cons o (finalAt d) 𝟘 h)
 
-  -- and word j of its codeword is v * g[j]
+  -- word j of the codeword of v is v * g[j]
   pub base-plain : (g : List R) (T T' : ℕ → List R) (v : R) (j : ℕ) → getD (encode F (oneRow F g T T') 0 (v ∷ [])) j 𝟘 ≡ v · getD g j 𝟘
   base-plain g T T' v j = ap (λ b. getD b j 𝟘) (encode-word F (length g) g T T' refl v) ∙ getD-multiple K v g j
 

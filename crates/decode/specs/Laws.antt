@@ -129,7 +129,7 @@ module _ (d c : ℕ) (g t t' b old space : List ℕ) where
     exactly (refusal n j' a o w) = absurd (let z : _≡_ {A = ℕ} 0 1 = cc in omega arith)
     exactly (settled j' s w) = settled-exactly d g t t' b (length space) (known j) old r out s
 
-    -- and the message of the block is the result
+    -- where no refusal from 1 to 6 is due, the message whose codeword the block is, is the result
     pub gives : (m : List ℕ) → length m ≡ 2 ^ d → Low P m → codeword d g t t' m ≡ b → Result r out work → (outcome r ≡ done tt) × (out ≡ m)
     gives m l p e (refusal n j' a o w) = absurd (let z : _≡_ {A = ℕ} 0 1 = cc in omega arith)
     gives m l p e (settled j' s w) = settled-message d g t t' b (length space) (known j) old r out m s l p e

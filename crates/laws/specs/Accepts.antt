@@ -178,7 +178,7 @@ module _ (d c : ℕ) (g t t' w z : List ℕ) (y : ℕ) (r us o : List ℕ) where
     λ h. ap₂ (λ j f. numbersOf (j ⨾ done f)) (h .0) (none-exactly (h .0) .1 (h .1)),
   )
 
-  -- and it names a check exactly when nothing is refused and that check is the first that fails
+  -- the verifier names a check exactly when nothing is refused and that check is the first that fails
   pub rejects-exactly : (k : Check) → (numbersOf (verification d c g t t' w z y r us o) ≡ checkNumbers k)
       ↔ ((judgeVerifying d c g t t' w z y r us o ≡ done tt) × FailsFirst (checks F 0 (lent g t t') (elements 𝔽₁ w) (elements 𝔽₁ z) (el y) (elements 𝔽₁ r) us (elements 𝔽₁ o)) k)
   unfolding verification

@@ -58,7 +58,7 @@ module _ {d c : ℕ} {g t t' m z r us w o s o' s' : List ℕ} {a : Written} (p :
   pub not-opened : {n : Refusal} {v : Verdict} → a ≡ NotWritten n → numbers v ≡ (number n, 0, 0) → OpenVerify d c g t t' m z r us w o s v o' s'
   not-opened e h = record { verdict = h ∙ after-refusal (judgeWriting d c g t t' m z r (length o) (length s)) (valueWord m z) _ (ap wrote (sym e) ∙ p .answer); opening = p .result; work = p .work }
 
--- and one that matches on the encoder's
+-- by the answer of encoding
 module _ {d c : ℕ} {g t t' m z r us w o s w' : List ℕ} {a : Answer} (p : Encoded d c g t t' m w a w') where
   pub committed : {v : Verdict} {o' s' : List ℕ} → a ≡ Done → OpenVerify d c g t t' m z r us w' o s v o' s' → CommitOpenVerify d c g t t' m z r us w o s v w' o' s'
   committed e h =

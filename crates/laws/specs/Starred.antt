@@ -64,7 +64,7 @@ m = 5 ∷ 7 ∷ []
 abbrev w : List ℕ
 w = 19 ∷ 26 ∷ 2147483638 ∷ 2147483631 ∷ []
 
--- the same with another last word
+-- the block w with another last word
 abbrev spoilt : List ℕ
 spoilt = 19 ∷ 26 ∷ 2147483638 ∷ 2147483632 ∷ []
 

@@ -129,7 +129,7 @@ module _ (K : Ring) (low : ℕ) where
         b : R
         b = form K (λ j. fixed K (suc (length y)) (coefficient K m) (drop (suc i) r) (2 ^ length y +ℕ j)) y
 
-    -- so that it is told by its values at 0, 1, 2
+    -- h is told by its values at 0, 1, 2
     pub h-through : (half : R) → num K 2 * half ≡ 𝟙 → (i : ℕ) (X : R) → low +ℕ i < length z
         → through K half (h K low m z r (suc i) (num K 0)) (h K low m z r (suc i) (num K 1)) (h K low m z r (suc i) (num K 2)) X ≡ h K low m z r (suc i) X
     h-through half two i X l = through-values K half two (h K low m z r (suc i)) (h-degree i l) X

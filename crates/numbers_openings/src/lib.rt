@@ -84,7 +84,7 @@ fn write(opened: &mut [u32], y: &mut u32) -> u32 {
     opening::tv_write_opening(2, 2, &g, &t, &t2, &message, &z, &r, opened, &mut work, y).number
 }
 
-// The same opening, written.
+// An opening at depth 2, written, and the value that comes with it.
 pub fn written() {
     let mut opened = [0u32; 13];
     let mut y = 0u32;

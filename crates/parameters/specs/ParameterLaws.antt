@@ -55,7 +55,7 @@ judge-guarded d c g t t' l w = by (depthOk d) (rateOk c) l
     by true false l = refl
     by false b l = refl
 
--- so a job is judged by flags that later tests are guarded with
+-- a job is judged by flags, where those of the later tests are guarded by the earlier ones
 pub judged-by : (d c : ℕ) (g t t' : List ℕ) (L W : Bool) {l w : Bool} {out : Outcome (Unit {0})}
     → l ≡ (inLimits d c && L) → w ≡ (l && W) → out ≡ judgeRow d c g t t' l w → out ≡ judgeRow d c g t t' L W
 judged-by d c g t t' L W e f h =

@@ -10,7 +10,7 @@ use Rattle.residue.specs.Scans.{allBelow, noneZero, allDiffer}
 abbrev pub limits : ℕ → ℕ → Outcome (Unit {0})
 limits d c = require (depthOk d) 1 ⨾ require (rateOk c) 2
 
--- the same as one test
+-- depth and rate are legal, as one test
 abbrev pub inLimits : ℕ → ℕ → Bool
 inLimits d c = depthOk d && rateOk c
 

@@ -44,7 +44,7 @@ pub fn words_ok(lengths: bool, g: &[u32], t: &[u32], t2: &[u32]) -> bool
     scan::three_below(g, t, t2)
 }
 
-// And those of a message or a block.
+// Whether all words of g, t, t2 and of a message or block are below the modulus, where all lengths are right.
 pub fn all_words_ok(lengths: bool, g: &[u32], t: &[u32], t2: &[u32], m: &[u32]) -> bool
     ensures { λ r. ⌜ r ≡ (lengths && (rowWords (now (g .entry)) (now (t .entry)) (now (t2 .entry)) && allBelow (now (m .entry)))) ⌝ }
 {

@@ -104,7 +104,7 @@ there-and-back {t} {new} {old} {m} {work} other c d b o w =
     let fine = message-done m (length other) (length work) (ap isPower same ∙ legal .power) (o ∙ sym same) (w ∙ sym same) (below-all m (f .low)) in
     (b .answer ∙ sym fine, b .clearances ∙ ap (λ x. kept x other (tableOf m)) (sym fine) ∙ table-message t m (legal .power) (legal .range) f)
 
--- and a message that became a table
+-- a message that became a table comes back from it
 pub back-and-there : {old t : List ℤ} {m m′ work left : List ℕ} {r r′ : Answer} (other : List ℕ)
     → ToTable m old t work left r → outcome r ≡ done tt → ToCoefficients t other m′ r′ → length other ≡ length m
     → (outcome r′ ≡ done tt) × (m′ ≡ m)

@@ -34,7 +34,7 @@ abbrev pub across : Way → Element → Element → Element
 across ToCoefficients x y = y ⊟ x
 across ToTable x y = x ⊞ y
 
--- so a table becomes its coefficients, and a message its table
+-- by passes a table becomes its coefficients, and a message its table
 pub passes-coefficients : (d : ℕ) (t : List Element) → passes (across ToCoefficients) d t ≡ coefficients K d t
 unfolding passes coefficients
 passes-coefficients zero t = refl
