@@ -1,7 +1,7 @@
 -- What holds where a block may be decoded, and what the contract of decoding says of two results and of codewords. Assumes nothing.
 use mathlib.Core.Path.{_≡_, sym, ap, _∙_}
 use mathlib.Core.Logic.{_↔_}
-use mathlib.Core.Bool.{Bool, true, false, _&&_}
+use mathlib.Core.Bool.{_&&_}
 use mathlib.Core.List.{List, [], _∷_}
 use Prim.Native.Nat.{ℕ, _^_, _<_, _≤_}
 use native.Mathlib.Nat.{one-mul}
@@ -17,9 +17,9 @@ use Rattle.algebra.specs.WordLists.{Low, elements, toWords, length-elements, el
 use Rattle.foldable.specs.Code.{Codeword}
 use Rattle.foldable.specs.Decode.{Decoder, rowDecoder, unique-decoded}
 use Rattle.job.specs.declared.Answer.{Answer}
-use Rattle.job.specs.Outcome.{Outcome, refused, done, outcome, require, _⨾_}
+use Rattle.job.specs.Outcome.{Outcome, refused, done, outcome}
 use Rattle.job.specs.OutcomeLaws.{require-done, held, both, same-answer}
-use Rattle.job.specs.Limits.{maxDepth, depthOk, rateOk, blockSize, diagonalsSize}
+use Rattle.job.specs.Limits.{maxDepth, blockSize, diagonalsSize}
 use Rattle.job.specs.LimitLaws.{rate-least, rate-most}
 use Rattle.residue.specs.Residues.{P, F, K, el, inv}
 use Rattle.residue.specs.Scans.{allBelow, noneZero, allDiffer}

@@ -8,7 +8,7 @@ use lib.Dec.{leb}
 use lib.Pow.{pow-mono}
 use borrow.Author.Tests.{leb-true}
 use Rattle.algebra.specs.Tests.{and-both}
-use Rattle.job.specs.Limits.{maxDepth, minRate, maxRate, depthOk, rateOk, blockSize, diagonalsSize, maxMessage, maxBlock}
+use Rattle.job.specs.Limits.{maxDepth, minRate, maxRate, depthOk, rateOk, diagonalsSize, maxMessage, maxBlock}
 
 pub depth-most : (d : ℕ) → depthOk d ≡ true → d ≤ maxDepth
 depth-most d e = leb-true d maxDepth e
@@ -27,9 +27,6 @@ power-most d h = pow-mono h
 
 pub product-most : (c n : ℕ) → c ≤ maxRate → n ≤ maxMessage → c * n ≤ maxBlock
 product-most c n h k = mul-le-mul h k
-
-pub block-most : (c d : ℕ) → c ≤ maxRate → d ≤ maxDepth → blockSize c d ≤ maxBlock
-block-most c d h k = product-most c (2 ^ d) h (power-most d k)
 
 pub diagonals-most : (c d : ℕ) → c ≤ maxRate → d ≤ maxDepth → diagonalsSize c d ≤ maxBlock
 diagonals-most c d h k = product-most c (2 ^ d - 1) h (omega (arith, power-most d k))

@@ -24,9 +24,6 @@ pub pass : {B : Type 0} {b : Bool} (n : ℕ) {next x : Outcome B} → b ≡ true
 pass n {next = next} e f = f ∙ sym (ap (λ t. require t n ⨾ next) e)
 
 -- the last test of all
-pub refuses : {b : Bool} {n : ℕ} → b ≡ false → refused n ≡ require b n
-refuses {n = n} e = sym (ap (λ t. require t n) e)
-
 pub holds : {b : Bool} (n : ℕ) → b ≡ true → done tt ≡ require b n
 holds n e = sym (ap (λ t. require t n) e)
 
@@ -53,10 +50,6 @@ last b n {a} e t = e ∙ end a ∙ ap (λ b. require b n) t
 pub both : {A : Type 0} (o : Outcome (Unit {0})) {next : Outcome A} {a : A} → o ⨾ next ≡ done a → (o ≡ done tt) × (next ≡ done a)
 both (refused n) e = absurd (let z : _≡_ {A = ℕ} 0 1 = cc in omega arith)
 both (done tt) e = (refl, e)
-
-pub regroup : {A B C : Type 0} (o : Outcome A) (p : Outcome B) (q : Outcome C) → (o ⨾ p) ⨾ q ≡ o ⨾ p ⨾ q
-regroup (refused n) p q = refl
-regroup (done a) p q = refl
 
 -- a buffer after a job that is done, and after one that is refused
 pub kept-done : {A B : Type 0} {o : Outcome A} {a : A} (old : List B) {new out : List B} → o ≡ done a → out ≡ new → out ≡ kept o old new

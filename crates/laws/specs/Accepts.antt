@@ -29,11 +29,10 @@ use Rattle.basefold.specs.Plain.{carried-plain, base-plain, elements-block}
 use Rattle.basefold.specs.Equations.{placeAt, claim, Equations}
 use Rattle.basefold.specs.Honest.{Queries}
 use Rattle.basefold.specs.Accepts.{none-fails-exactly}
-use Rattle.job.specs.Outcome.{Outcome, refused, done, require, _⨾_}
+use Rattle.job.specs.Outcome.{Outcome, refused, done, _⨾_}
 use Rattle.job.specs.OutcomeLaws.{require-done, held, both, require-number, after-number}
-use Rattle.job.specs.Limits.{depthOk, rateOk, blockSize}
+use Rattle.job.specs.Limits.{blockSize}
 use Rattle.residue.specs.Residues.{F, K, el, inv, _⊞_, _⊠_}
-use Rattle.residue.specs.Scans.{noneZero, allDiffer}
 use Rattle.parameters.specs.Lent.{lent, diagonal}
 use Rattle.parameters.specs.Parameters.{limits, rowLengths, judgeRow}
 use Rattle.parameters.specs.ParameterLaws.{row-lengths, judge-number}

@@ -1,4 +1,4 @@
--- Rounds, v and blocks lie within the opening, and its length has a bound. Assumes nothing.
+-- Rounds, v and blocks lie within the opening. Assumes nothing.
 use mathlib.Core.Path.{_≡_, sym, ap, ap₂, _∙_}
 use Prim.Native.Nat.{ℕ, suc, _+_, _*_, _-_, _^_, _≤_, _<_}
 use native.Mathlib.Nat.{mul-add, mul-le-mul-left, two-pow-succ, add-assoc}
@@ -7,7 +7,7 @@ use native.Mathlib.Omega.{arith}
 use lib.Pow.{pow-mono, pow-pos}
 use Rattle.basefold.specs.Layout.{roundAt, finalAt, blockAt, openingSize}
 use Rattle.job.specs.Limits.{maxDepth, maxRate, blockSize, maxBlock}
-use Rattle.job.specs.LimitLaws.{power-most, product-most, diagonals-most}
+use Rattle.job.specs.LimitLaws.{power-most, product-most}
 
 -- h_(i+1) ends before v, and v stands within the opening
 pub round-within : (d i : ℕ) → i < d → roundAt d (suc i) + 3 ≤ finalAt d
@@ -26,10 +26,6 @@ pub block-within : (c d i : ℕ) → i < d → blockAt c 0 d i + blockSize c i �
 block-within c d i h =
     let q : 2 ^ d - 2 ^ i ≤ 2 ^ d - 1 = omega (arith, pow-pos i) in
     omega (arith, block-end c d i h, mul-le-mul-left c q)
-
--- a legal opening is short
-pub opening-most : (c d : ℕ) → c ≤ maxRate → d ≤ maxDepth → openingSize c 0 d ≤ finalAt maxDepth + 1 + maxBlock
-opening-most c d h k = omega (arith, diagonals-most c d h k)
 
 -- where a block begins, as it is computed
 pub power-below : (i d : ℕ) {m n : ℕ} → i < d → m ≡ 2 ^ d → n ≡ 2 ^ (i + 1) → n ≤ m
