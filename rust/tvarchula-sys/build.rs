@@ -33,6 +33,8 @@ fn folders() -> Vec<PathBuf> {
 fn found(folder: &Path) {
     println!("cargo:rerun-if-changed={}", folder.join(ARCHIVE).display());
     println!("cargo:rustc-link-search=native={}", folder.display());
+    // For build scripts of crates over this one: DEP_TVARCHULA_FOLDER.
+    println!("cargo:folder={}", folder.display());
 }
 
 /// A file that is not there is looked for again at the next build.

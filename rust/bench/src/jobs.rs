@@ -41,7 +41,7 @@ pub trait Jobs {
     fn verify_opening(code: &Code<'_>, lent: &Opened<'_>) -> Answer;
 }
 
-/// Plain Rust, with a reduction of products and a way to invert the differences of a fold.
+/// Plain Rust, with a reduction of products and a way to invert the differences of diagonals.
 #[derive(Clone, Copy, Debug)]
 pub struct Plain<R = Mersenne, I = OneChain>(PhantomData<(R, I)>);
 
@@ -63,7 +63,7 @@ impl<R: Reduce, I: Invert> Jobs for Plain<R, I> {
     }
 
     fn decode(code: &Code<'_>, block: &[u32], message: &mut [u32], work: &mut [u32]) -> Answer {
-        plain::decode::<R>(code, block, message, work).into()
+        plain::decode::<R, I>(code, block, message, work).into()
     }
 
     fn fold(lent: &Folding<'_>, folded: &mut [u32]) -> Answer {

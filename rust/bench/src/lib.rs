@@ -11,6 +11,7 @@ mod jobs;
 mod lent;
 mod linked;
 pub mod plain;
+mod products;
 mod sample;
 mod sizes;
 
@@ -18,5 +19,8 @@ pub use answer::{Answer, Code, Failure, Refusal};
 pub use call::{call, Call, Job};
 pub use jobs::{Jobs, Outputs, Plain};
 pub use lent::{Buffers, Inputs};
+#[cfg(before)]
+pub use linked::Before;
 pub use linked::Library;
+pub use products::Products;
 pub use sizes::{Sizes, MAX_DEPTH, MAX_QUERIES};

@@ -1,7 +1,7 @@
 //! The message of a codeword.
 
 use super::encode::{lift, scale};
-use super::invert::{gap, invert_chain};
+use super::invert::Invert;
 use super::judge;
 use super::residue::{inverse, minus, times, Reduce};
 use super::scan::all_same;
@@ -9,7 +9,7 @@ use crate::answer::{Code, Refusal};
 use crate::sizes::Sizes;
 
 /// Writes the message whose codeword `block` is. `work` holds zeros after success and refusal 8.
-pub fn decode<R: Reduce>(
+pub fn decode<R: Reduce, I: Invert>(
     code: &Code<'_>,
     block: &[u32],
     message: &mut [u32],
@@ -21,47 +21,43 @@ pub fn decode<R: Reduce>(
         [(found.0, due), (found.1, sizes.message()), (found.2, due)]
     };
     judge::code(code, lengths, &[block])?;
-    let settled = settle::<R>(code, block, message, work);
+    let settled = settle::<R, I>(code, block, message, work);
     work.fill(0);
     settled
 }
 
 /// The codeword needs all of the work buffer, and the result may not be touched before the block is
 /// known to be a codeword: so the message is found twice.
-fn settle<R: Reduce>(
+fn settle<R: Reduce, I: Invert>(
     code: &Code<'_>,
     block: &[u32],
     message: &mut [u32],
     work: &mut [u32],
 ) -> Result<(), Refusal> {
-    find::<R>(code, block, message.len(), work);
+    find::<R, I>(code, block, message.len(), work);
     encode_again::<R>(code, message.len(), work);
     judge::ensure(all_same(work, block), Refusal::NoCodeword)?;
-    let found = find::<R>(code, block, message.len(), work);
+    let found = find::<R, I>(code, block, message.len(), work);
     message.copy_from_slice(found);
     Ok(())
 }
 
 /// The only message of n words that the block allows, in the front of the work buffer. It is found
 /// from the first column alone: the first word of each base block.
-fn find<'a, R: Reduce>(code: &Code<'_>, block: &[u32], n: usize, work: &'a mut [u32]) -> &'a [u32] {
+fn find<'a, R: Reduce, I: Invert>(
+    code: &Code<'_>,
+    block: &[u32],
+    n: usize,
+    work: &'a mut [u32],
+) -> &'a [u32] {
     let c = code.g.len();
     let (column, inverses) = work[..2 * n - 1].split_at_mut(n);
-    for (out, &word) in column.iter_mut().zip(firsts(c, block)) {
-        *out = word;
+    for (out, base) in column.iter_mut().zip(block.chunks_exact(c)) {
+        *out = base[0];
     }
-    let pairs = firsts(c, code.t).zip(firsts(c, code.t2));
-    invert_chain::<R>(pairs.map(gap), inverses);
+    I::invert::<R>(c, code.t, code.t2, inverses);
     undo::<R>(code, inverse::<R>(code.g[0]), inverses, column);
     column
-}
-
-/// The first of every c words, also from the last on, where `step_by` would divide at every step.
-fn firsts(
-    c: usize,
-    s: &[u32],
-) -> impl DoubleEndedIterator<Item = &u32> + ExactSizeIterator + Clone {
-    s.chunks_exact(c).map(|base| &base[0])
 }
 
 /// The levels of the column undone, in place. `x` is the inverse of the base row's first word.

@@ -26,7 +26,7 @@ pub struct Folding<'a> {
 /// Writes the fold of the block into `folded`.
 pub fn fold<R: Reduce, I: Invert>(lent: &Folding<'_>, folded: &mut [u32]) -> Result<(), Refusal> {
     judge(lent, folded.len())?;
-    I::invert::<R>(lent.t, lent.t2, folded);
+    I::invert::<R>(1, lent.t, lent.t2, folded);
     draw::<R>(lent, folded);
     Ok(())
 }

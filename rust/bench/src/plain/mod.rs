@@ -9,6 +9,7 @@ mod evaluate;
 mod fold;
 mod invert;
 mod judge;
+pub mod products;
 mod residue;
 mod scan;
 mod table_to_coefficients;

@@ -3,11 +3,13 @@
 mod clock;
 mod machine;
 pub mod measure;
+mod products;
 mod scan;
 mod table;
 mod times;
 
 use measure::{least, median, ratios, Plan};
+use products::Millions;
 use scan::Scans;
 use table::Table;
 use times::{Case, Times, CASES, FOLD_ONE_CHAIN};
@@ -15,6 +17,9 @@ use tvarchula_bench::{Buffers, Inputs, Sizes};
 
 /// The rate of all measurements.
 const RATE: usize = 8;
+
+/// The sides, in the order in which they are measured.
+const NAMES: [&str; 4] = ["library", "plain", "plain %", "before"];
 
 /// What stands above each table.
 const TIMES: &str = "\
@@ -24,6 +29,7 @@ as the library does: a fold inverts in sixteen chains of products on both sides.
 in one chain, as is usual. Plain Rust reduces products by the shape of the Mersenne prime.";
 const REMAINDER: &str = "\
 The same beside plain Rust that reduces products by `%`.";
+const BEFORE: &str = "The same beside an older library.";
 const GROWTH: &str = "\
 Nanoseconds for each word of the block, by the least times; for tables and evaluation, of the message. Encoding, decoding,
 writing and the tables make one pass for each level, so that theirs grow with the depth.";
@@ -35,11 +41,13 @@ pub fn print(plan: Plan, depths: &[usize]) {
     let mut lent: Vec<Inputs> = depths.iter().map(draw).collect();
     let mut times = CASES.map(|_| vec![Times::new(); depths.len()]);
     let mut scans = vec![Scans::new(); depths.len()];
+    let mut millions = Millions::default();
     for _ in 0..plan.rounds {
         for (case, times) in CASES.iter().zip(&mut times) {
             add_times(plan, case, &mut lent, times);
         }
         scan::add(plan, &lent, &mut scans);
+        products::add(plan, &mut millions);
     }
     let samples = plan.rounds * plan.samples;
     println!(
@@ -49,6 +57,14 @@ pub fn print(plan: Plan, depths: &[usize]) {
     );
     println!("### Times\n\n{TIMES}\n\n{}", compared(&lent, &times, 1));
     println!("{REMAINDER}\n\n{}", compared(&lent, &times, 2));
+    if cfg!(before) {
+        println!("{BEFORE}\n\n{}", compared(&lent, &times, 3));
+    }
+    println!(
+        "### A million products\n\n{}\n\n{}",
+        products::ABOUT,
+        products::table(&millions)
+    );
     println!("### Growth\n\n{GROWTH}\n\n{}", growth(&lent, &times));
     println!(
         "### Scan\n\n{}\n\n{}",
@@ -68,20 +84,20 @@ fn add_times(plan: Plan, case: &Case, lent: &mut [Inputs], times: &mut [Times]) 
 
 /// Times, and ratios of times, of the library and another side.
 fn compared(lent: &[Inputs], times: &[Vec<Times>], side: usize) -> Table {
-    let plain = ["", "plain", "plain %"][side];
+    let other = NAMES[side];
     let mut table = Table::new([
         "job".to_owned(),
         "depth".to_owned(),
         "library".to_owned(),
         "least".to_owned(),
-        plain.to_owned(),
+        other.to_owned(),
         "least".to_owned(),
-        format!("library / {plain}"),
+        format!("library / {other}"),
         "of the least".to_owned(),
     ]);
     for (case, times) in CASES.iter().zip(times) {
-        // The reduction makes no difference to these: they stand in the first table only.
-        if side > 1 && case.adds_only() {
+        // The reduction makes no difference to these.
+        if side == 2 && case.adds_only() {
             continue;
         }
         for (inputs, t) in lent.iter().zip(times) {

@@ -3,7 +3,12 @@
 use super::measure::{measure, Plan, Samples, Side};
 use std::hint::black_box;
 use tvarchula_bench::plain::{Mersenne, OneChain, Remainder, SixteenChains};
+#[cfg(before)]
+use tvarchula_bench::Before;
 use tvarchula_bench::{call, Buffers, Call, Inputs, Job, Library, Plain};
+
+/// The library, plain Rust, plain Rust with `%`, and an older library where the build was told of one.
+pub const SIDES: usize = 3 + cfg!(before) as usize;
 
 /// A job as it is measured.
 #[derive(Clone, Copy, Debug)]
@@ -61,6 +66,17 @@ impl Case {
         matches!(self.job, Job::ToCoefficients | Job::ToTable)
     }
 
+    fn calls(&self) -> [Call; SIDES] {
+        let [mersenne, remainder] = self.plain;
+        [
+            call::<Library>,
+            mersenne,
+            remainder,
+            #[cfg(before)]
+            call::<Before>,
+        ]
+    }
+
     /// The job's main slice: the message where no block is lent, else the block.
     pub fn main_slice<'a>(&self, inputs: &'a Inputs) -> &'a [u32] {
         match self.job {
@@ -70,13 +86,12 @@ impl Case {
     }
 }
 
-/// The sides of a case: the library, plain Rust, plain Rust with `%`.
-pub type Times = Samples<3>;
+/// What a case takes on every side.
+pub type Times = Samples<SIDES>;
 
 /// Measures a case on inputs that have its number of queries.
 pub fn of_case(plan: Plan, case: &Case, inputs: &Inputs) -> Times {
-    let [mersenne, remainder] = case.plain;
-    let calls: [Call; 3] = [call::<Library>, mersenne, remainder];
+    let calls = case.calls();
     let job = case.job;
     let mut buffers = Buffers::of(job, inputs);
     alike(job, inputs, &buffers, &calls);
@@ -90,7 +105,7 @@ pub fn of_case(plan: Plan, case: &Case, inputs: &Inputs) -> Times {
 }
 
 /// Stops the program where a side refuses or writes other words than the library.
-fn alike(job: Job, inputs: &Inputs, buffers: &Buffers, calls: &[Call; 3]) {
+fn alike(job: Job, inputs: &Inputs, buffers: &Buffers, calls: &[Call; SIDES]) {
     let written = calls.map(|call| {
         let mut buffers = buffers.clone();
         let answer = call(job, inputs, &mut buffers);

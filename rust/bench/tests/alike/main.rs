@@ -5,8 +5,8 @@ mod damage;
 
 use damage::Damage;
 use std::collections::BTreeSet;
-use tvarchula_bench::plain::{Mersenne, OneChain, Remainder, SixteenChains};
-use tvarchula_bench::{call, Answer, Buffers, Call, Inputs, Job, Library, Plain, Sizes};
+use tvarchula_bench::plain::{Mersenne, OneChain, Remainder, SixteenChains, P};
+use tvarchula_bench::{call, Answer, Buffers, Call, Inputs, Job, Library, Plain, Products, Sizes};
 
 /// Every form of plain Rust.
 const PLAIN: [Call; 4] = [
@@ -97,4 +97,36 @@ fn largest_bench_size() {
     let inputs = Inputs::drawn(Sizes { depth: 16, rate: 8 }, 256);
     compare(&inputs, &[], &mut Numbers::new());
     compare(&inputs, &[|i, _| i.block[5] ^= 1], &mut Numbers::new());
+}
+
+#[test]
+fn products_of_all_lengths() {
+    for len in (0..40).chain([1000]) {
+        let factors: Vec<u32> = (0..len).map(|i| P - 1 - 7919 * i).collect();
+        let values: Vec<u32> = (0..len).map(|i| P / 3 + 104_729 * i).collect();
+        for rounds in 0..4 {
+            compare_products(rounds, &factors, &values);
+            if let Some((_, rest)) = factors.split_last() {
+                compare_products(rounds, rest, &values);
+                compare_products(rounds, &[rest, &[P]].concat(), &values);
+                compare_products(rounds, &factors, &[&[P], &values[1..]].concat());
+            }
+        }
+    }
+}
+
+/// Calls every side's products on the same words.
+fn compare_products(rounds: u32, factors: &[u32], values: &[u32]) {
+    let library = products::<Library>(rounds, factors, values);
+    let expected = products::<Plain<Mersenne>>(rounds, factors, values);
+    let by_division = products::<Plain<Remainder>>(rounds, factors, values);
+    assert_eq!(library, expected);
+    assert_eq!(by_division, expected);
+}
+
+/// Whether the values are multiplied, what they are then, and the product of the chain.
+fn products<S: Products>(rounds: u32, factors: &[u32], values: &[u32]) -> (bool, Vec<u32>, u32) {
+    let mut values = values.to_vec();
+    let done = S::side_by_side(rounds, factors, &mut values);
+    (done, values, S::in_chain(rounds, factors))
 }

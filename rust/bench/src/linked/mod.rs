@@ -1,0 +1,284 @@
+//! The exported functions of the static libraries, and all the unsafe code of this crate but the clock's.
+//!
+//! Every call is sound for the same reasons: the libraries answer on any input; a slice goes over as
+//! its pointer and its own length; all slices live during the call, and a library keeps none of
+//! them; those that are written are borrowed alone.
+
+use crate::answer::{Answer, Code};
+use crate::jobs::{Jobs, Outputs};
+use crate::plain::{Folding, Opened};
+use crate::products::Products;
+use tvarchula_sys::tv_answer;
+
+/// The static library.
+#[derive(Clone, Copy, Debug)]
+pub struct Library;
+
+/// An older one, where the build was told of it.
+#[cfg(before)]
+#[derive(Clone, Copy, Debug)]
+pub struct Before;
+
+mod products;
+
+/// What the library exports, and what its sources export for the benchmark.
+mod library {
+    pub use super::products::*;
+    pub use tvarchula_sys::*;
+}
+
+/// The same of an older library: the build renames its functions and declares them.
+#[cfg(before)]
+#[allow(dead_code)]
+mod before {
+    include!(concat!(env!("OUT_DIR"), "/before_tvarchula.rs"));
+    include!(concat!(env!("OUT_DIR"), "/before_products.rs"));
+}
+
+fn answer(raw: tv_answer) -> Answer {
+    Answer {
+        number: raw.number,
+        first: raw.first,
+        second: raw.second,
+    }
+}
+
+// SAFETY of all calls below: see the head of this file.
+macro_rules! linked {
+    ($side:ident, $functions:ident) => {
+        impl Jobs for $side {
+            fn table_to_coefficients(clearances: &[i32], message: &mut [u32]) -> Answer {
+                answer(unsafe {
+                    $functions::tv_table_to_coefficients(
+                        clearances.as_ptr(),
+                        clearances.len(),
+                        message.as_mut_ptr(),
+                        message.len(),
+                    )
+                })
+            }
+
+            fn coefficients_to_table(
+                message: &[u32],
+                table: &mut [i32],
+                work: &mut [u32],
+            ) -> Answer {
+                answer(unsafe {
+                    $functions::tv_coefficients_to_table(
+                        message.as_ptr(),
+                        message.len(),
+                        table.as_mut_ptr(),
+                        table.len(),
+                        work.as_mut_ptr(),
+                        work.len(),
+                    )
+                })
+            }
+
+            fn evaluate(depth: u32, message: &[u32], z: &[u32], value: &mut u32) -> Answer {
+                answer(unsafe {
+                    $functions::tv_evaluate(
+                        depth,
+                        message.as_ptr(),
+                        message.len(),
+                        z.as_ptr(),
+                        z.len(),
+                        value,
+                    )
+                })
+            }
+
+            fn encode(code: &Code<'_>, message: &[u32], block: &mut [u32]) -> Answer {
+                let Code {
+                    depth,
+                    rate,
+                    g,
+                    t,
+                    t2,
+                } = *code;
+                answer(unsafe {
+                    $functions::tv_encode(
+                        depth,
+                        rate,
+                        g.as_ptr(),
+                        g.len(),
+                        t.as_ptr(),
+                        t.len(),
+                        t2.as_ptr(),
+                        t2.len(),
+                        message.as_ptr(),
+                        message.len(),
+                        block.as_mut_ptr(),
+                        block.len(),
+                    )
+                })
+            }
+
+            fn decode(
+                code: &Code<'_>,
+                block: &[u32],
+                message: &mut [u32],
+                work: &mut [u32],
+            ) -> Answer {
+                let Code {
+                    depth,
+                    rate,
+                    g,
+                    t,
+                    t2,
+                } = *code;
+                answer(unsafe {
+                    $functions::tv_decode(
+                        depth,
+                        rate,
+                        g.as_ptr(),
+                        g.len(),
+                        t.as_ptr(),
+                        t.len(),
+                        t2.as_ptr(),
+                        t2.len(),
+                        block.as_ptr(),
+                        block.len(),
+                        message.as_mut_ptr(),
+                        message.len(),
+                        work.as_mut_ptr(),
+                        work.len(),
+                    )
+                })
+            }
+
+            fn fold(lent: &Folding<'_>, folded: &mut [u32]) -> Answer {
+                let Folding {
+                    level,
+                    rate,
+                    t,
+                    t2,
+                    block,
+                    challenge,
+                } = *lent;
+                answer(unsafe {
+                    $functions::tv_fold(
+                        level,
+                        rate,
+                        t.as_ptr(),
+                        t.len(),
+                        t2.as_ptr(),
+                        t2.len(),
+                        block.as_ptr(),
+                        block.len(),
+                        challenge,
+                        folded.as_mut_ptr(),
+                        folded.len(),
+                    )
+                })
+            }
+
+            fn write_opening(
+                code: &Code<'_>,
+                message: &[u32],
+                z: &[u32],
+                r: &[u32],
+                out: Outputs<'_>,
+            ) -> Answer {
+                let Code {
+                    depth,
+                    rate,
+                    g,
+                    t,
+                    t2,
+                } = *code;
+                let Outputs {
+                    result,
+                    work,
+                    value,
+                } = out;
+                answer(unsafe {
+                    $functions::tv_write_opening(
+                        depth,
+                        rate,
+                        g.as_ptr(),
+                        g.len(),
+                        t.as_ptr(),
+                        t.len(),
+                        t2.as_ptr(),
+                        t2.len(),
+                        message.as_ptr(),
+                        message.len(),
+                        z.as_ptr(),
+                        z.len(),
+                        r.as_ptr(),
+                        r.len(),
+                        result.as_mut_ptr(),
+                        result.len(),
+                        work.as_mut_ptr(),
+                        work.len(),
+                        value,
+                    )
+                })
+            }
+
+            fn verify_opening(code: &Code<'_>, lent: &Opened<'_>) -> Answer {
+                let Code {
+                    depth,
+                    rate,
+                    g,
+                    t,
+                    t2,
+                } = *code;
+                let Opened {
+                    block,
+                    z,
+                    y,
+                    r,
+                    queries,
+                    opening,
+                } = *lent;
+                answer(unsafe {
+                    $functions::tv_verify_opening(
+                        depth,
+                        rate,
+                        g.as_ptr(),
+                        g.len(),
+                        t.as_ptr(),
+                        t.len(),
+                        t2.as_ptr(),
+                        t2.len(),
+                        block.as_ptr(),
+                        block.len(),
+                        z.as_ptr(),
+                        z.len(),
+                        y,
+                        r.as_ptr(),
+                        r.len(),
+                        queries.as_ptr(),
+                        queries.len(),
+                        opening.as_ptr(),
+                        opening.len(),
+                    )
+                })
+            }
+        }
+
+        impl Products for $side {
+            fn side_by_side(rounds: u32, factors: &[u32], values: &mut [u32]) -> bool {
+                unsafe {
+                    $functions::products_side_by_side(
+                        rounds,
+                        factors.as_ptr(),
+                        factors.len(),
+                        values.as_mut_ptr(),
+                        values.len(),
+                    )
+                }
+            }
+
+            fn in_chain(rounds: u32, factors: &[u32]) -> u32 {
+                unsafe { $functions::products_in_chain(rounds, factors.as_ptr(), factors.len()) }
+            }
+        }
+    };
+}
+
+linked!(Library, library);
+#[cfg(before)]
+linked!(Before, before);
