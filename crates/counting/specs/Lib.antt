@@ -1,0 +1,11 @@
+-- How often a block that is no codeword is folded into a codeword: at most p^d - (p-1)^d of the p^d lists of challenges do it.
+--     Challenges          THE DEFINITIONS: allElements, lists, challenges, count, folds, lucky
+--     Every               every list of d challenges is listed, once: every-challenges, once-challenges, length-challenges
+--     Count               count-but-one: counting over lists of which all but one hold few
+--     Lucky               one-challenge, lucky-none, lucky-bound; lucky-among: challenges from a part of the field
+--     Tried               tried: over a finite field it is decided whether a block is a codeword
+pub mod Challenges
+pub mod Every
+pub mod Count
+pub mod Lucky
+pub mod Tried
