@@ -9,7 +9,7 @@ use Rattle.algebra.specs.Words.{PrimeField}
 use Rattle.foldable.specs.Code.{Code, Codeword, fold}
 
 module _ {A : Type 0} where
-  -- the lists of d elements of xs: the empty list; each list of d elements with each element of xs behind it
+  -- all lists of d elements of xs: of none, the empty list; of d + 1, each list of d with each element of xs behind it
   unfoldable pub lists : List A → ℕ → List (List A)
   lists xs zero = [] ∷ []
   lists xs (suc d) = flatMap (λ x. map (λ r. r ++ (x ∷ [])) (lists xs d)) xs
@@ -22,7 +22,7 @@ module _ {A : Type 0} where
 unfoldable pub allElements : (𝓕 : PrimeField) → List (𝓕 .field .ring .R)
 allElements 𝓕 = row (𝓕 .modulus) (𝓕 .words .el)
 
--- the p^d lists of d challenges
+-- the p^d lists of d challenges r_0, .., r_{d-1}
 abbrev pub challenges : (𝓕 : PrimeField) → ℕ → List (List (𝓕 .field .ring .R))
 challenges 𝓕 d = lists (allElements 𝓕) d
 

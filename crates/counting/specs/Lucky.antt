@@ -91,8 +91,12 @@ module _ (F : Field) (C : Code F) where
           (λ a k. omega (arith, last a, lucky-among u d (below F C d 𝓛) (fold F C d a w) (sized a) k))
           (λ a. codeword-test d (below F C d 𝓛) (fold F C d a w) (sized a)) xs u)
 
--- all challenges of a field
-pub lucky-bound : (𝓕 : PrimeField) (C : Code (𝓕 .field)) (base? : (v : List (𝓕 .field .ring .R)) → Dec (Codeword (𝓕 .field) C 0 v)) (d : ℕ) → Legal (𝓕 .field) C d
-    → (w : List (𝓕 .field .ring .R)) → length w ≡ size (𝓕 .field) C d → (Codeword (𝓕 .field) C d w → ⊥)
-    → lucky (𝓕 .field) C base? d w (challenges 𝓕 d) + (𝓕 .modulus - 1) ^ d ≤ 𝓕 .modulus ^ d
-lucky-bound 𝓕 C base? d 𝓛 w e n = rw (length-all 𝓕) at (lucky-among (𝓕 .field) C base? (allElements 𝓕) (all-once 𝓕) d 𝓛 w e n)
+-- challenges from the whole field
+module _ (𝓕 : PrimeField) (C : Code (𝓕 .field)) where
+  open PrimeField 𝓕 using (modulus, field)
+  open Field field using (ring)
+  open Ring ring using (R)
+
+  pub lucky-bound : (base? : (v : List R) → Dec (Codeword field C 0 v)) (d : ℕ) → Legal field C d → (w : List R) → length w ≡ size field C d → (Codeword field C d w → ⊥)
+      → lucky field C base? d w (challenges 𝓕 d) + (modulus - 1) ^ d ≤ modulus ^ d
+  lucky-bound base? d 𝓛 w e n = rw (length-all 𝓕) at (lucky-among field C base? (allElements 𝓕) (all-once 𝓕) d 𝓛 w e n)
