@@ -13,14 +13,19 @@ pub fn evaluate<R: Reduce>(depth: u32, message: &[u32], z: &[u32]) -> Result<u32
 }
 
 /// By the top variable: the value of the left half plus that variable times the value of the right
-/// half. The message has 2^d words for the d words of `z`. Two words are the values of their halves.
+/// half. The message has 2^d words for the d words of `z`. As in the library, two words and four are
+/// cases of their own.
 pub fn value<R: Reduce>(message: &[u32], z: &[u32]) -> u32 {
-    let Some((&top, low)) = z.split_last() else {
-        return message[0];
-    };
-    if let &[left, right] = message {
-        return plus_product::<R>(left, top, right);
+    match (message, z) {
+        (&[word], _) => word,
+        (&[a, b], &[x]) => plus_product::<R>(a, x, b),
+        (&[a, b, c, d], &[x, y]) => {
+            plus_product::<R>(plus_product::<R>(a, x, b), y, plus_product::<R>(c, x, d))
+        }
+        _ => {
+            let (left, right) = message.split_at(message.len() / 2);
+            let (low, top) = z.split_at(z.len() - 1);
+            plus_product::<R>(value::<R>(left, low), top[0], value::<R>(right, low))
+        }
     }
-    let (left, right) = message.split_at(message.len() / 2);
-    plus_product::<R>(value::<R>(left, low), top, value::<R>(right, low))
 }
