@@ -1,6 +1,6 @@
 -- Lists without one of their places, tables of entries, and the first term of a sum. Assumes nothing.
 use mathlib.Core.Path.{_≡_, refl, ap, _∙_}
-use mathlib.Core.List.{List, [], _∷_, map}
+use mathlib.Core.List.{List, [], _∷_}
 use Prim.Native.Nat.{ℕ, zero, suc, _<_}
 use native.Mathlib.Nat.{suc-inj}
 use native.Mathlib.Omega.{arith}
@@ -33,11 +33,6 @@ found zero zero (v ∷ A) h d = absurd (d refl)
 found (suc i) zero (v ∷ A) h d = (i, omega arith, refl)
 found zero (suc c) (v ∷ A) h d = (0, omega arith, refl)
 found (suc i) (suc c) (v ∷ A) h d = let f = found i c A (omega arith) (λ e. d (ap suc e)) in (suc (f .0), omega (arith, f .1), f .2)
-
-pub map-row : {A B : Type 0} (f : A → B) (n : ℕ) (g : ℕ → A) → map f (row n g) ≡ row n (λ j. f (g j))
-unfolding row
-map-row f zero g = refl
-map-row f (suc n) g = ap (λ l. f (g 0) ∷ l) (map-row f n (λ j. g (suc j)))
 
 pub row-replicate : {A : Type 0} (n : ℕ) (a : A) → row n (λ j. a) ≡ replicate n a
 unfolding row

@@ -13,7 +13,7 @@ use Rattle.algebra.specs.Numerals.{num}
 use Rattle.algebra.specs.Field.{Field}
 use Rattle.algebra.specs.Algebra.{algebra, quote}
 use Rattle.algebra.specs.Sums.{sum, sum-ext, sum-scale, sum-double}
-use Rattle.algebra.specs.Lists.{row, length-row, getD-row, row-ext, row-append, zip-row, Differ}
+use Rattle.algebra.specs.Lists.{row, length-row, getD-row, row-ext, row-append, map-row, zip-row, Differ}
 use Rattle.algebra.specs.Vector.{Vectors, vectors}
 use Rattle.foldable.specs.Code.{Code, encode, Legal}
 use Rattle.foldable.specs.Encode.{double, encode-split}
@@ -22,11 +22,6 @@ use Rattle.foldable.specs.Lift.{butterfly}
 use Rattle.roots.specs.RootCode.{reverseBits, pow, Order, powers, value, reversed, rootCode, Roots, Table}
 use Rattle.roots.specs.Roots.{pow-square, pow-even, pow-odd, power-past, opposite, table-order}
 use Rattle.roots.specs.BitReversal.{reverse-below, reverse-even, reverse-odd}
-
-map-row : {A B : Type 0} (f : A → B) (n : ℕ) (g : ℕ → A) → map f (row n g) ≡ row n (λ j. f (g j))
-unfolding row
-map-row f zero g = refl
-map-row {B = B} f (suc n) g = ap (λ (l : List B). f (g 0) ∷ l) (map-row f n (λ j. g (suc j)))
 
 differ-row : {A : Type 0} (n : ℕ) (f g : ℕ → A) → ((j : ℕ) → j < n → f j ≡ g j → ⊥) → Differ (row n f) (row n g)
 unfolding row
