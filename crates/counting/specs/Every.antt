@@ -3,15 +3,15 @@ use mathlib.Core.Path.{_≡_, sym, ap, _∙_, subst}
 use mathlib.Core.HLevel.{⊥-prop, ¬-prop}
 use mathlib.Core.Logic.{_≢_, _↔_, Or·elim, ∥∥₁-prop, ∥∥₁-elim, ∥∥₁-map}
 use mathlib.Core.List.{List, [], _∷_, _++_, map, flatMap, List·Mem, List·Mem-prop, List·Nodup, Disjoint, not-mem-nil, mem-cast, mem-cons-self, mem-cons-of-mem, eq-or-mem-of-mem-cons, mem-append, mem-append-left, mem-append-right, mem-map-of-mem, exists-of-mem-map, append-cancel-right, nodup-nil, nodup-cons, nodup-append, Pairwise·map}
-use Prim.Native.Nat.{ℕ, zero, suc, _+_, _*_, _^_, _<_}
-use native.Mathlib.Nat.{ℕ-set, suc-inj, zero-mul, suc-mul, pow-zero, pow-succ'}
+use Prim.Native.Nat.{ℕ, zero, suc, _+_, _^_, _<_}
+use native.Mathlib.Nat.{ℕ-set, suc-inj, pow-zero, pow-succ'}
 use native.Mathlib.Numerals.{add-one}
 use native.Mathlib.Omega.{arith}
 use lib.ListN.{length, getD, take, length-append, length-map, length-take}
 use lib.Seq.{take-suc, take-all, getD-at}
 use Rattle.algebra.specs.Ring.{Ring}
 use Rattle.algebra.specs.Field.{Field}
-use Rattle.algebra.specs.Lists.{row, length-row}
+use Rattle.algebra.specs.Lists.{row, length-row, length-flatMap}
 use Rattle.algebra.specs.Words.{Words, PrimeField}
 use Rattle.counting.specs.Challenges.{lists, allElements, challenges}
 
@@ -63,11 +63,6 @@ module _ {A B : Type 0} (f : A → List B) where
         nodup-flatMap each apart xs (k .1),
         λ b p q. ∥∥₁-elim (of-flatMap b xs q) ⊥-prop (λ t. apart x (t .0) (λ e. k .0 (mem-cast e (t .1))) b p (t .2)),
       )
-
-  length-flatMap : (n : ℕ) → ((x : A) → length (f x) ≡ n) → (xs : List A) → length (flatMap f xs) ≡ length xs * n
-  unfolding flatMap
-  length-flatMap n e [] = sym (zero-mul n)
-  length-flatMap n e (x ∷ xs) = length-append (f x) (flatMap f xs) ∙ omega (arith, e x, length-flatMap n e xs, suc-mul (length xs) n)
 
 module _ {A : Type 0} (xs : List A) where
   -- the lists of d + 1 elements that end with x
