@@ -94,7 +94,7 @@ module _ (F L K : Field) (α : F .ring .R → L .ring .R) (β : F .ring .R → K
       ∙ ap₂ (zip _⊞_) (row-linear x row) (times-linear n m G)
 
   -- by the line's value at 0 and its slope
-  line-linear : (a t t' : F .ring .R) → (t ≡ t' → ⊥) → (u v : L .ring .R) → φ (line L (α a) (α t) (α t') u v) ≡ line K (β a) (β t) (β t') (φ u) (φ v)
+  pub line-linear : (a t t' : F .ring .R) → (t ≡ t' → ⊥) → (u v : L .ring .R) → φ (line L (α a) (α t) (α t') u v) ≡ line K (β a) (β t) (β t') (φ u) (φ v)
   line-linear a t t' h u v =
       let l = line L 𝟘 (α t) (α t') u v in
       let r = slope L (α t) (α t') u v in
