@@ -1,11 +1,11 @@
 -- A homomorphism takes values of polynomials, sums over corners, and what an opening holds of them, to those of the images. Assumes nothing.
 use mathlib.Core.Path.{_≡_, refl, sym, ap, ap₂, _∙_}
-use mathlib.Core.List.{List, [], _∷_, _++_, map, map-append}
+use mathlib.Core.List.{List, _∷_, _++_, map, map-append}
 use Prim.Native.Nat.{ℕ, zero, suc, _+_ as _+ℕ_, _*_ as _*ℕ_, _-_ as _-ℕ_, _^_}
 use lib.ListN.{drop, getD, length-map}
 use Rattle.algebra.specs.Ring.{Ring}
 use Rattle.algebra.specs.Field.{Field}
-use Rattle.algebra.specs.Lists.{map-row, row-ext}
+use Rattle.algebra.specs.Lists.{map-drop, map-row, row-ext}
 use Rattle.algebra.specs.Sums.{sum, prod}
 use Rattle.algebra.specs.Bits.{bit, either}
 use Rattle.multilinear.specs.Polynomial.{monomial, form, coefficient, poly, fixed}
@@ -13,11 +13,6 @@ use Rattle.multilinear.specs.Corners.{corner, overCorners, eq}
 use Rattle.multilinear.specs.Quadratic.{through}
 use Rattle.multilinear.specs.Rounds.{weighted, h, final, finalSum}
 use Rattle.pairs.specs.Homomorphism.{Homomorphism, zero-image, difference-image, num-image, getD-image}
-
-pub map-drop : {A B : Type 0} (f : A → B) (n : ℕ) (l : List A) → map f (drop n l) ≡ drop n (map f l)
-map-drop f zero l = refl
-map-drop f (suc n) [] = refl
-map-drop f (suc n) (x ∷ l) = map-drop f n l
 
 map-either : {A B : Type 0} (f : A → B) (n : ℕ) (s t : A) → f (either n s t) ≡ either n (f s) (f t)
 map-either f zero s t = refl

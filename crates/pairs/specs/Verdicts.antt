@@ -9,7 +9,7 @@ use lib.ListN.{length, take, drop, getD, length-map}
 use Rattle.algebra.specs.Ring.{Ring}
 use Rattle.algebra.specs.Field.{Field}
 use Rattle.algebra.specs.Numerals.{num}
-use Rattle.algebra.specs.Lists.{row-ext, differ-at}
+use Rattle.algebra.specs.Lists.{row-ext, map-take, map-drop, differ-at}
 use Rattle.foldable.specs.Code.{Code, size, line, encode, Legal}
 use Rattle.multilinear.specs.Quadratic.{through}
 use Rattle.multilinear.specs.Rounds.{finalSum}
@@ -19,12 +19,7 @@ use Rattle.basefold.specs.CheckLaws.{same-true, same-false}
 use Rattle.basefold.specs.Honest.{next-within, Queries}
 use Rattle.pairs.specs.Pair.{extend}
 use Rattle.pairs.specs.Homomorphism.{Homomorphism, inverse-image, num-image, getD-image, injective, line-image, encode-image}
-use Rattle.pairs.specs.Polynomials.{map-drop, through-image, finalSum-image}
-
-map-take : {A B : Type 0} (f : A → B) (n : ℕ) (l : List A) → map f (take n l) ≡ take n (map f l)
-map-take f zero l = refl
-map-take f (suc n) [] = refl
-map-take {B = B} f (suc n) (x ∷ l) = ap (λ (t : List B). f x ∷ t) (map-take f n l)
+use Rattle.pairs.specs.Polynomials.{through-image, finalSum-image}
 
 map-part : {A B : Type 0} (f : A → B) (n k : ℕ) (l : List A) → map f (take n (drop k l)) ≡ take n (drop k (map f l))
 map-part f n k l = map-take f n (drop k l) ∙ ap (take n) (map-drop f k l)
