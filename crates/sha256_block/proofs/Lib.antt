@@ -1,0 +1,2 @@
+-- Turns   a schedule that is filled word by word
+pub mod Turns
