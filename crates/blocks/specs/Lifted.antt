@@ -1,6 +1,6 @@
 -- Encoding in two steps, over any base matrix: the base blocks, and then the levels above, in place. Assumes nothing.
 use mathlib.Core.Path.{_≡_, refl, sym, ap, ap₂, _∙_}
-use mathlib.Core.List.{List, [], _∷_, _++_, append-nil, append-assoc, flatMap}
+use mathlib.Core.List.{List, [], _∷_, _++_, append-nil, flatMap}
 use Prim.Native.Nat.{ℕ, zero, suc, _+_, _*_, _^_, _≤_}
 use native.Mathlib.Nat.{mul-comm, mul-zero, mul-one, mul-suc, mul-add, mul-le-mul-left, two-pow-succ}
 use native.Mathlib.Omega.{arith}
@@ -8,19 +8,13 @@ use lib.ListN.{length, take, drop, length-drop, length-map}
 use lib.Seq.{take-at, drop-at, take-all, take-append-le, drop-append-le, drop-append-add}
 use Rattle.algebra.specs.Ring.{Ring}
 use Rattle.algebra.specs.Field.{Field}
-use Rattle.algebra.specs.Lists.{row, length-row, row-ext, row-append, length-flatMap}
+use Rattle.algebra.specs.Lists.{row, length-row, row-ext, row-append, flatMap-append, length-flatMap}
 use Rattle.algebra.specs.Vector.{sum-zeros}
 use Rattle.algebra.specs.Matrix.{times, length-times}
 use Rattle.foldable.specs.Code.{Code, oneRow, size, dim, generator, encode, Legal}
 use Rattle.foldable.specs.Encode.{message-halves, below, encode-halves}
 use Rattle.foldable.specs.Lift.{spread, butterfly, lift}
 use Rattle.blocks.specs.Base.{baseMessages, baseBlocks}
-
-module _ {A B : Type 0} (f : A → List B) where
-  flat-append : (xs ys : List A) → flatMap f (xs ++ ys) ≡ flatMap f xs ++ flatMap f ys
-  unfolding flatMap
-  flat-append [] ys = refl
-  flat-append (x ∷ xs) ys = ap (λ l. f x ++ l) (flat-append xs ys) ∙ sym (append-assoc (f x) (flatMap f xs) (flatMap f ys))
 
 -- the base messages of a message of two parts
 messages-append : {A : Type 0} (k b c : ℕ) (l r : List A) → length l ≡ k * b → baseMessages k (b + c) (l ++ r) ≡ baseMessages k b l ++ baseMessages k c r
@@ -40,7 +34,7 @@ module _ (F : Field) (C : Code F) where
 
   blocks-append : (b c : ℕ) (l r : List R) → length l ≡ length G₀ * b → baseBlocks F C (b + c) (l ++ r) ≡ baseBlocks F C b l ++ baseBlocks F C c r
   unfolding baseBlocks
-  blocks-append b c l r e = ap (flatMap _) (messages-append (length G₀) b c l r e) ∙ flat-append _ (baseMessages (length G₀) b l) (baseMessages (length G₀) c r)
+  blocks-append b c l r e = ap (flatMap _) (messages-append (length G₀) b c l r e) ∙ flatMap-append _ (baseMessages (length G₀) b l) (baseMessages (length G₀) c r)
 
   pub length-blocks : (i : ℕ) → Legal F C i → (m : List R) → length (baseBlocks F C (2 ^ i) m) ≡ size F C i
   unfolding baseBlocks baseMessages

@@ -10,13 +10,13 @@ use lib.ListN.{length, getD, replicate}
 use Rattle.algebra.specs.Ring.{Ring, one-mul, mul-zero, neg-mul}
 use Rattle.algebra.specs.Algebra.{algebra, quote}
 use Rattle.algebra.specs.Lists.{row, length-row, row-ext, row-getD, map-row, zip, zip-row}
-use Rattle.algebra.specs.Sums.{sum, sum-ext, sum-scale}
+use Rattle.algebra.specs.Sums.{sum, sum-ext, sum-scale, sum-cons}
 use Rattle.algebra.specs.Vector.{Vectors, vectors}
 use Rattle.algebra.specs.Matrix.{Wide, times}
 use Rattle.determinant.specs.Inverse.{Square, product, identity}
 use Rattle.determinant.specs.Determinant.{without, minor, entry, sign, det, adjugate}
 use Rattle.determinant.specs.Wedge.{wedges}
-use Rattle.determinant.specs.Places.{length-without, wide-without, row-replicate, wide-row, wide-at, sum-cons}
+use Rattle.determinant.specs.Places.{length-without, wide-without, row-replicate, wide-row, wide-at}
 use Rattle.determinant.specs.Expansion.{det-wedges, front, other}
 
 module _ (K : Ring) where

@@ -10,9 +10,9 @@ use lib.ListN.{length, getD, replicate, length-map}
 use Rattle.algebra.specs.Ring.{Ring, one-mul, mul-zero, mul-neg, neg-mul}
 use Rattle.algebra.specs.Algebra.{algebra, quote}
 use Rattle.algebra.specs.Matrix.{Wide, wide-map}
-use Rattle.algebra.specs.Sums.{sum, sum-ext, sum-scale}
+use Rattle.algebra.specs.Sums.{sum, sum-ext, sum-scale, sum-cons}
 use Rattle.determinant.specs.Determinant.{without, sign, det}
-use Rattle.determinant.specs.Places.{length-without, wide-without, wide-at, found, sum-cons}
+use Rattle.determinant.specs.Places.{length-without, wide-without, wide-at, found}
 use Rattle.determinant.specs.Wedge.{Form, unit, wedge, wedges, of-scale, wedge-ext, wedge-linear, twice, exchanged}
 
 -- the set s with a column more, at place j, that is not in it

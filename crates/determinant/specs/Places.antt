@@ -1,14 +1,12 @@
--- Lists without one of their places, tables of entries, and the first term of a sum. Assumes nothing.
-use mathlib.Core.Path.{_≡_, refl, ap, _∙_}
+-- Lists without one of their places, and tables of entries. Assumes nothing.
+use mathlib.Core.Path.{_≡_, refl, ap}
 use mathlib.Core.List.{List, [], _∷_}
 use Prim.Native.Nat.{ℕ, zero, suc, _<_}
 use native.Mathlib.Nat.{suc-inj}
 use native.Mathlib.Omega.{arith}
 use lib.ListN.{length, getD, replicate}
-use Rattle.algebra.specs.Ring.{Ring}
 use Rattle.algebra.specs.Lists.{row}
 use Rattle.algebra.specs.Matrix.{Wide}
-use Rattle.algebra.specs.Sums.{sum}
 use Rattle.determinant.specs.Determinant.{without}
 
 pub length-without : {E : Type 0} (i k : ℕ) (xs : List E) → length xs ≡ suc k → i < suc k → length (without i xs) ≡ k
@@ -48,12 +46,3 @@ pub wide-at : {E : Type 0} (n : ℕ) (A : List (List E)) → Wide n A → (i : �
 wide-at n [] w i h = absurd (omega arith)
 wide-at n (v ∷ A) w zero h = w .0
 wide-at n (v ∷ A) w (suc i) h = wide-at n A (w .1) i (omega arith)
-
-module _ (K : Ring) where
-  infixl 65 _+_
-  open Ring K using (R, _+_)
-
-  pub sum-cons : (n : ℕ) (f : ℕ → R) → sum K (suc n) f ≡ f 0 + sum K n (λ j. f (suc j))
-  unfolding sum
-  sum-cons zero f = K .add-comm _ _
-  sum-cons (suc n) f = ap (λ x. x + f (suc n)) (sum-cons n f) ∙ K .add-assoc _ _ _

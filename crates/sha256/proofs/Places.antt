@@ -1,11 +1,12 @@
 -- Bytes stored in a buffer. Assumes nothing.
 use mathlib.Core.Path.{_≡_, refl, sym, ap, ap₂, _∙_}
-use mathlib.Core.List.{List, [], _∷_, _++_, append-assoc, append-nil}
+use mathlib.Core.List.{List, [], _∷_, _++_, flatMap, append-assoc, append-nil}
 use Prim.Native.Nat.{ℕ, suc, _+_, _*_, _-_, _<_, _≤_}
 use native.Mathlib.Numerals.{add-one}
 use native.Mathlib.Omega.{arith}
 use lib.ListN.{length, getD, take, drop, set, replicate, length-append, length-replicate, replicate-append-replicate, drop-of-length-le}
 use lib.Seq.{paste, sets-eq, take-suc, take-all, take-length, take-at, drop-at, set-at, drop-append-add, drop-drop, length-take-le}
+use Rattle.algebra.specs.Lists.{flatMap-append, length-flatMap}
 use Rattle.sha256.specs.Padding.{bytes, allBytes}
 
 length-bytes : (x : ℕ) → length (bytes x) ≡ 4
@@ -14,8 +15,7 @@ length-bytes x = refl
 
 pub length-all : (l : List ℕ) → length (allBytes l) ≡ 4 * length l
 unfolding allBytes
-length-all [] = refl
-length-all (x ∷ l) = let b = length-bytes x in let e = length-all l in length-append (bytes x) (allBytes l) ∙ omega arith
+length-all l = length-flatMap bytes 4 length-bytes l ∙ omega arith
 
 -- four stores in a row
 pub four-stored : (o : List ℕ) (i a b c d : ℕ) → i + 4 ≤ length o
@@ -28,9 +28,8 @@ four-stored o i a b c d h =
 
 -- all bytes of words, one word more
 all-snoc : (l : List ℕ) (x : ℕ) → allBytes (l ++ (x ∷ [])) ≡ allBytes l ++ bytes x
-unfolding allBytes
-all-snoc [] x = append-nil (bytes x)
-all-snoc (y ∷ l) x = ap (λ r. bytes y ++ r) (all-snoc l x) ∙ sym (append-assoc (bytes y) (allBytes l) (bytes x))
+unfolding allBytes flatMap
+all-snoc l x = flatMap-append bytes l (x ∷ []) ∙ ap (λ r. flatMap bytes l ++ r) (append-nil (bytes x))
 
 -- a word stored behind what is written already
 word-behind : (a o : List ℕ) (k x : ℕ) {out out′ : List ℕ} → length a ≡ k → out ≡ a ++ drop k o → out′ ≡ take k out ++ bytes x ++ drop (k + 4) out
@@ -57,7 +56,7 @@ front-end w o i d e p = p ∙ ap₂ (λ x y. allBytes x ++ y) (take-all i w (ome
 -- two words in a row
 pub two-words : (o : List ℕ) (i x y : ℕ) {p q : List ℕ} → i + 8 ≤ length o → p ≡ take i o ++ bytes x ++ drop (i + 4) o
     → q ≡ take (i + 4) p ++ bytes y ++ drop (i + 4 + 4) p → q ≡ take i o ++ allBytes (x ∷ y ∷ []) ++ drop (i + 8) o
-unfolding allBytes
+unfolding allBytes flatMap
 two-words o i x y h e f =
     let b = length-bytes x in
     let t = length-take-le i o (omega arith) in

@@ -1,5 +1,5 @@
 -- The padded message (FIPS 180-4, 5.1.1), as bytes. Assumes nothing.
-use mathlib.Core.List.{List, [], _∷_, _++_}
+use mathlib.Core.List.{List, [], _∷_, _++_, flatMap}
 use Prim.Native.Nat.{ℕ, _*_, _-_, _/_, _%_, _^_}
 use lib.ListN.{length, replicate}
 
@@ -9,8 +9,7 @@ bytes x = x / 2 ^ 24 % 256 ∷ x / 2 ^ 16 % 256 ∷ x / 2 ^ 8 % 256 ∷ x % 256 
 
 -- those of several words
 unfoldable pub allBytes : List ℕ → List ℕ
-allBytes [] = []
-allBytes (x ∷ xs) = bytes x ++ allBytes xs
+allBytes xs = flatMap bytes xs
 
 -- 5.1.1: k, the least number of zeros with l + 1 + k ≡ 448 modulo 512, for a message of l bits (see `zeros-solve`, `zeros-least`)
 abbrev pub zeroBits : ℕ → ℕ

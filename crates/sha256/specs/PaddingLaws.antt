@@ -1,11 +1,11 @@
 -- The zeros of the padding are the fewest, and the padded message bit by bit is the standard's. Assumes nothing.
 use mathlib.Core.Path.{_≡_, refl, sym, ap, ap₂, _∙_}
-use mathlib.Core.List.{List, [], _∷_, _++_, append-assoc, append-nil}
+use mathlib.Core.List.{List, [], _∷_, _++_, flatMap, append-nil}
 use Prim.Native.Nat.{ℕ, zero, suc, _+_, _*_, _-_, _/_, _%_, _^_, _<_, _≤_}
 use native.Mathlib.Omega.{arith}
 use lib.Pow.{shr-shr, field, mod-mod-pow}
 use lib.ListN.{length, replicate, replicate-append-replicate}
-use Rattle.algebra.specs.Lists.{row, row-ext, row-append}
+use Rattle.algebra.specs.Lists.{row, row-ext, row-append, flatMap-append}
 use Rattle.algebra.specs.Bits.{bit}
 use Rattle.sha256.specs.Padding.{bytes, allBytes, zeroBits, lengthWords, padded}
 
@@ -21,8 +21,7 @@ unfoldable pub binary : ℕ → ℕ → List ℕ
 binary w n = row w (λ i. bit n (w - 1 - i))
 
 unfoldable pub bits : List ℕ → List ℕ
-bits [] = []
-bits (x ∷ l) = binary 8 x ++ bits l
+bits l = flatMap (binary 8) l
 
 -- the high bits and the low bits of a number
 binary-split : (j k n : ℕ) → binary (j + k) n ≡ binary j (n / 2 ^ k) ++ binary k n
@@ -44,29 +43,28 @@ binary-low k n = row-ext k _ _ (λ i h. at (k - 1 - i) (omega arith))
 
 bits-append : (l r : List ℕ) → bits (l ++ r) ≡ bits l ++ bits r
 unfolding bits
-bits-append [] r = refl
-bits-append (x ∷ l) r = ap (λ s. binary 8 x ++ s) (bits-append l r) ∙ sym (append-assoc (binary 8 x) (bits l) (bits r))
+bits-append = flatMap-append (binary 8)
 
 bits-word : (x : ℕ) → bits (bytes x) ≡ binary 32 x
-unfolding bits bytes
+unfolding bits bytes flatMap
 bits-word x =
     let low : binary 8 (x / 2 ^ 8 % 256) ++ (binary 8 (x % 256) ++ []) ≡ binary 16 x =
     ap₂ _++_ (binary-low 8 (x / 2 ^ 8)) (append-nil (binary 8 (x % 256)) ∙ binary-low 8 x) ∙ sym (binary-split 8 8 x) in
     ap₂ _++_ (binary-low 8 (x / 2 ^ 24)) (ap₂ _++_ (binary-low 8 (x / 2 ^ 16)) low ∙ sym (binary-split 8 16 x)) ∙ sym (binary-split 8 24 x)
 
 bits-zeros : (n : ℕ) → bits (replicate n 0) ≡ replicate (8 * n) 0
-unfolding bits binary row bit
+unfolding bits flatMap binary row bit
 bits-zeros zero = refl
 bits-zeros (suc n) =
     let e : 8 + 8 * n ≡ 8 * suc n = omega arith in
     ap (λ l. replicate 8 0 ++ l) (bits-zeros n) ∙ replicate-append-replicate 8 (8 * n) 0 ∙ ap (λ k. replicate k 0) e
 
 bits-one : (n : ℕ) → bits (0x80 ∷ replicate n 0) ≡ 1 ∷ replicate (7 + 8 * n) 0
-unfolding bits binary row bit
+unfolding bits flatMap binary row bit
 bits-one n = ap (λ l. (1 ∷ replicate 7 0) ++ l) (bits-zeros n) ∙ ap (λ l. 1 ∷ l) (replicate-append-replicate 7 (8 * n) 0)
 
 bits-length : (l : ℕ) → bits (allBytes (lengthWords l)) ≡ binary 64 l
-unfolding allBytes
+unfolding allBytes flatMap
 bits-length l =
     let high = l / 2 ^ 32 % 2 ^ 32 in
     let low = l % 2 ^ 32 in

@@ -1,6 +1,6 @@
 -- The next hash value from a hash value and a block of 64 bytes (FIPS 180-4, 6.2.2).
 -- `State` holds eight words, a to h: the working variables, or a hash value H_0 to H_7. Assumes nothing.
-use mathlib.Core.Bool.{Bool, true, false}
+use mathlib.Core.Bool.{cond}
 use mathlib.Core.List.{List}
 use Prim.Native.Nat.{ℕ, zero, suc, _*_, _-_}
 use lib.Dec.{ltb}
@@ -17,14 +17,10 @@ M b t = wordAt b (4 * t)
 unfoldable pub next : (ℕ → ℕ) → ℕ → ℕ
 next W t = σ1 (W (t - 2)) ⊞ W (t - 7) ⊞ σ0 (W (t - 15)) ⊞ W (t - 16)
 
-abbrev pub pick : Bool → ℕ → ℕ → ℕ
-pick true x y = x
-pick false x y = y
-
 -- the recurrence to a depth of n, of which depth t is enough for W_t (`word-first` and `word-next` say it without the depth)
 unfoldable pub within : List ℕ → ℕ → ℕ → ℕ
 within b zero t = M b t
-within b (suc n) t = pick (ltb t 16) (M b t) (next (within b n) t)
+within b (suc n) t = cond (ltb t 16) (M b t) (next (within b n) t)
 
 unfoldable pub W : List ℕ → ℕ → ℕ
 W b t = within b t t

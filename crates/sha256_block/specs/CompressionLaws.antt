@@ -1,5 +1,6 @@
 -- The message schedule as the standard has it, and rounds one by one. Assumes nothing.
 use mathlib.Core.Path.{_≡_, refl, sym, ap, ap₂, _∙_}
+use mathlib.Core.Bool.{cond}
 use mathlib.Core.Logic.{⊎-elim}
 use mathlib.Core.List.{List}
 use Prim.Native.Nat.{ℕ, zero, suc, _+_, _-_, _<_, _≤_}
@@ -10,7 +11,7 @@ use borrow.Author.Tests.{lt-ltb, le-ltb}
 use Rattle.algebra.specs.Order.{lt-or-ge}
 use Rattle.sha256_words.specs.Words.{_⊞_, σ0, σ1}
 use Rattle.sha256_block.specs.Constants.{K}
-use Rattle.sha256_block.specs.Compression.{M, next, pick, within, W, round, rounds}
+use Rattle.sha256_block.specs.Compression.{M, next, within, W, round, rounds}
 use Rattle.sha256_block.specs.declared.State.{State}
 
 -- a word needs only words before it
@@ -23,11 +24,11 @@ module _ (b : List ℕ) where
   within-first : (n t : ℕ) → t < 16 → within b n t ≡ M b t
   unfolding within
   within-first zero t h = refl
-  within-first (suc n) t h = ap (λ x. pick x (M b t) (next (within b n) t)) (lt-ltb t 16 h)
+  within-first (suc n) t h = ap (λ x. cond x (M b t) (next (within b n) t)) (lt-ltb t 16 h)
 
   within-next : (n t : ℕ) → 16 ≤ t → within b (suc n) t ≡ next (within b n) t
   unfolding within
-  within-next n t h = ap (λ x. pick x (M b t) (next (within b n) t)) (le-ltb t 16 h)
+  within-next n t h = ap (λ x. cond x (M b t) (next (within b n) t)) (le-ltb t 16 h)
 
   -- a greater depth changes nothing
   enough : (n k t : ℕ) → t ≤ n → t ≤ k → within b n t ≡ within b k t
