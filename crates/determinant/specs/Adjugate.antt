@@ -5,6 +5,7 @@ use mathlib.Core.Logic.{_⊎_, inl, inr}
 use mathlib.Core.List.{List, [], _∷_, map}
 use Prim.Native.Nat.{ℕ, zero, suc, _+_ as _+ℕ_, _<_}
 use native.Mathlib.Nat.{zero-add, suc-add, suc-inj}
+use native.Mathlib.Decide.{ℕ-discrete}
 use native.Mathlib.Omega.{arith}
 use lib.ListN.{length, getD, replicate}
 use Rattle.algebra.specs.Ring.{Ring, one-mul, mul-zero, neg-mul}
@@ -13,9 +14,10 @@ use Rattle.algebra.specs.Lists.{row, length-row, row-ext, row-getD, map-row, zi
 use Rattle.algebra.specs.Sums.{sum, sum-ext, sum-scale, sum-cons}
 use Rattle.algebra.specs.Vector.{Vectors, vectors}
 use Rattle.algebra.specs.Matrix.{Wide, times}
-use Rattle.determinant.specs.Inverse.{Square, product, identity}
+use Rattle.determinant.specs.Inverse.{Square, product, diagonal, identity}
 use Rattle.determinant.specs.Determinant.{without, minor, entry, sign, det, adjugate}
 use Rattle.determinant.specs.Wedge.{wedges}
+use Rattle.determinant.specs.Products.{on, off}
 use Rattle.determinant.specs.Places.{length-without, wide-without, row-replicate, wide-row, wide-at}
 use Rattle.determinant.specs.Expansion.{det-wedges, front, other}
 
@@ -35,32 +37,15 @@ module _ (K : Ring) where
       ap₂ (zip _+_) (map-row (_*_ x) n (m 0)) (times-row n k v (λ j. m (suc j)) (suc-inj e)) ∙ zip-row _+_ n _ _
       ∙ row-ext n _ _ (λ c h. sym (sum-cons K k (λ j. getD (x ∷ v) j 𝟘 * m j c)))
 
-  -- the entries of the identity
-  unfoldable diagonal : ℕ → ℕ → R
-  diagonal zero zero = 𝟙
-  diagonal zero (suc j) = 𝟘
-  diagonal (suc i) zero = 𝟘
-  diagonal (suc i) (suc j) = diagonal i j
-
-  identity-row : (k : ℕ) → identity K k ≡ row k (λ i. row k (diagonal i))
-  unfolding identity row diagonal
-  identity-row zero = refl
-  identity-row (suc k) =
-      ap₂ _∷_ (ap (λ l. 𝟙 ∷ l) (sym (row-replicate k 𝟘))) (ap (map (λ v. 𝟘 ∷ v)) (identity-row k) ∙ map-row (λ v. 𝟘 ∷ v) k _)
-
   abbrev OnOrOff : ℕ → ℕ → Type 0
-  OnOrOff i j = ((i ≡ j) × (diagonal i j ≡ 𝟙)) ⊎ ((i ≡ j → ⊥) × (diagonal i j ≡ 𝟘))
+  OnOrOff i j = ((i ≡ j) × (diagonal K i j ≡ 𝟙)) ⊎ ((i ≡ j → ⊥) × (diagonal K i j ≡ 𝟘))
 
   on-or-off : (i j : ℕ) → OnOrOff i j
-  unfolding diagonal
-  on-or-off zero zero = inl (refl, refl)
-  on-or-off zero (suc j) = inr (λ e. omega arith, refl)
-  on-or-off (suc i) zero = inr (λ e. omega arith, refl)
-  on-or-off (suc i) (suc j) = go (on-or-off i j)
+  on-or-off i j = go (ℕ-discrete i j)
     where
-      go : OnOrOff i j → OnOrOff (suc i) (suc j)
-      go (inl h) = inl (ap suc (h .0), h .1)
-      go (inr h) = inr (λ e. h .0 (suc-inj e), h .1)
+      go : Dec (i ≡ j) → OnOrOff i j
+      go (yes e) = inl (e, ap (diagonal K i) (sym e) ∙ on K i)
+      go (no n) = inr (n, off K i j n)
 
   sign-add : (i j : ℕ) → sign K (i +ℕ j) ≡ sign K i * sign K j
   unfolding sign
@@ -72,7 +57,7 @@ module _ (K : Ring) where
 
   -- row i times column c of the adjugate: row i in place of row c, expanded
   along : (k : ℕ) (A : List (List R)) → Square (suc k) A → (i c : ℕ) → i < suc k → c < suc k
-      → sum K (suc k) (λ j. entry K A i j * (sign K (c +ℕ j) * det K k (minor c j A))) ≡ det K (suc k) A * diagonal i c
+      → sum K (suc k) (λ j. entry K A i j * (sign K (c +ℕ j) * det K k (minor c j A))) ≡ det K (suc k) A * diagonal K i c
   unfolding det without wedges
   along k A q i c h l =
       let v = getD A i [] in
@@ -82,7 +67,7 @@ module _ (K : Ring) where
       ∙ sum-scale K (suc k) (sign K c) _
       ∙ ap (λ x. sign K c * x) (det-wedges K (suc k) (v ∷ B) (ap suc (length-without c k A (q .rows) l)) wide) ∙ go (on-or-off i c)
     where
-      go : OnOrOff i c → sign K c * wedges K (getD A i [] ∷ without c A) (replicate (suc k) true) ≡ det K (suc k) A * diagonal i c
+      go : OnOrOff i c → sign K c * wedges K (getD A i [] ∷ without c A) (replicate (suc k) true) ≡ det K (suc k) A * diagonal K i c
       go (inl e) =
           ap (λ r. sign K c * wedges K (getD A r [] ∷ without c A) (replicate (suc k) true)) (e .0)
           ∙ sym (det-wedges K (suc k) A (q .rows) (q .wide) ∙ front K (suc k) c A _ (omega (arith, q .rows)) (q .wide))
@@ -93,7 +78,7 @@ module _ (K : Ring) where
 
   -- A adj(A) = det(A) I
   pub product-adjugate : (k : ℕ) (A : List (List R)) → Square k A → product K k A (adjugate K k A) ≡ map (_⊛_ (det K k A)) (identity K k)
-  unfolding adjugate product identity
+  unfolding adjugate product identity row
   product-adjugate zero [] q = refl
   product-adjugate zero (v ∷ A) q = absurd (omega (arith, q .rows))
   product-adjugate (suc k) A q =
@@ -103,8 +88,8 @@ module _ (K : Ring) where
       ∙ map-row (λ v. times K (suc k) v M) (suc k) (λ i. getD A i [])
       ∙ row-ext (suc k) _ _ (λ i h.
       times-row (suc k) (suc k) (getD A i []) (λ j c. sign K (c +ℕ j) * det K k (minor c j A)) (wide-at (suc k) A (q .wide) i (omega (arith, q .rows)))
-      ∙ row-ext (suc k) _ _ (λ c l. along k A q i c h l) ∙ sym (map-row (_*_ d) (suc k) (diagonal i)))
-      ∙ sym (map-row (_⊛_ d) (suc k) (λ i. row (suc k) (diagonal i))) ∙ ap (map (_⊛_ d)) (sym (identity-row (suc k)))
+      ∙ row-ext (suc k) _ _ (λ c l. along k A q i c h l) ∙ sym (map-row (_*_ d) (suc k) (diagonal K i)))
+      ∙ sym (map-row (_⊛_ d) (suc k) (λ i. row (suc k) (diagonal K i)))
 
   pub square-adjugate : (k : ℕ) (A : List (List R)) → Square k (adjugate K k A)
   unfolding adjugate

@@ -1,10 +1,12 @@
 -- The product of matrices, the identity, and the inverse of a matrix. Definitions only. Assumes nothing.
 use mathlib.Core.Path.{_≡_}
-use mathlib.Core.List.{List, [], _∷_, map}
-use Prim.Native.Nat.{ℕ, zero, suc}
+use mathlib.Core.Bool.{cond}
+use mathlib.Core.List.{List, map}
+use Prim.Native.Nat.{ℕ}
+use lib.Dec.{eqb}
 use lib.ListN.{length}
 use Rattle.algebra.specs.Ring.{Ring}
-use Rattle.algebra.specs.Vector.{Vectors, vectors}
+use Rattle.algebra.specs.Lists.{row}
 use Rattle.algebra.specs.Matrix.{Wide, times}
 
 -- k rows of k places
@@ -14,16 +16,17 @@ pub record Square {E : Type 0} (k : ℕ) (A : List (List E)) : Type 0 where
 
 module _ (K : Ring) where
   open Ring K using (R, 𝟘, 𝟙)
-  open Vectors (vectors K) using (zeros)
 
   -- the product A M, where M has n columns: each row of A times M
   unfoldable pub product : ℕ → List (List R) → List (List R) → List (List R)
   product n A M = map (λ row. times K n row M) A
 
-  -- the identity of k rows: ones on the diagonal, zeros elsewhere
+  -- the identity of k rows: 1 where row and column are the same, else 0
+  unfoldable pub diagonal : ℕ → ℕ → R
+  diagonal i j = cond (eqb i j) 𝟙 𝟘
+
   unfoldable pub identity : ℕ → List (List R)
-  identity zero = []
-  identity (suc k) = (𝟙 ∷ zeros k) ∷ map (λ row. 𝟘 ∷ row) (identity k)
+  identity k = row k (λ i. row k (diagonal i))
 
   -- M has k rows of k places, and A M and M A are the identity
   pub record Inverse (k : ℕ) (A M : List (List R)) : Type 0 where

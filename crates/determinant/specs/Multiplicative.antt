@@ -1,14 +1,15 @@
 -- The determinant of a product is the product of the determinants, and that of the identity is 1. Assumes nothing.
 use mathlib.Core.Bool.{Bool, true, false}
-use mathlib.Core.Path.{_≡_, refl, sym, ap₂, _∙_}
+use mathlib.Core.Path.{_≡_, refl, sym, ap, ap₂, _∙_}
 use mathlib.Core.List.{List, [], _∷_, map}
 use Prim.Native.Nat.{ℕ, zero, suc}
 use lib.ListN.{replicate}
 use Rattle.algebra.specs.Ring.{Ring}
 use Rattle.algebra.specs.Algebra.{algebra, quote}
+use Rattle.algebra.specs.Lists.{row}
 use Rattle.determinant.specs.Inverse.{Square, product, identity}
 use Rattle.determinant.specs.Determinant.{det}
-use Rattle.determinant.specs.Products.{square-identity, square-product}
+use Rattle.determinant.specs.Products.{square-identity, square-product, identity-suc}
 use Rattle.determinant.specs.Wedge.{unit, wedge, wedges, wedge-ext, zeros-wedge}
 use Rattle.determinant.specs.Image.{multiplicative}
 use Rattle.determinant.specs.Expansion.{det-wedges}
@@ -32,10 +33,11 @@ module _ (K : Ring) where
   wedges-shift (v ∷ A) s = wedge-ext K v s (wedges-shift A)
 
   wedges-identity : (k : ℕ) → wedges K (identity K k) (replicate k true) ≡ 𝟙
-  unfolding wedges wedge identity unit
+  unfolding wedges wedge identity row unit
   wedges-identity zero = refl
   wedges-identity (suc k) =
-      ap₂ (λ x y. 𝟙 * x - y) (wedges-shift (identity K k) (replicate k true) ∙ wedges-identity k) (zeros-wedge K k _ (replicate k true))
+      ap (λ I. wedges K I (replicate (suc k) true)) (identity-suc K k)
+      ∙ ap₂ (λ x y. 𝟙 * x - y) (wedges-shift (identity K k) (replicate k true) ∙ wedges-identity k) (zeros-wedge K k _ (replicate k true))
       ∙ algebra K [] (search quote depth 20) refl
 
   -- det(I) = 1

@@ -4,13 +4,17 @@ use mathlib.Core.Logic.{_↔_}
 use mathlib.Core.List.{List, [], _∷_, map}
 use Prim.Native.Nat.{ℕ, zero, suc}
 use native.Mathlib.Nat.{suc-inj}
+use native.Mathlib.Decide.{ℕ-discrete}
 use native.Mathlib.Omega.{arith}
 use lib.ListN.{length, length-map, length-replicate}
+use borrow.Author.Tests.{eq-eqb, ne-eqb}
 use Rattle.algebra.specs.Ring.{Ring, zero-mul, mul-zero, one-mul}
-use Rattle.algebra.specs.Lists.{zip}
+use Rattle.algebra.specs.Flags.{cond-true, cond-false}
+use Rattle.algebra.specs.Lists.{row, length-row, row-ext, map-row, zip}
 use Rattle.algebra.specs.Vector.{Vectors, vectors, multiple-sum, multiple-multiple, multiple-zeros, zeros-sum, sum-zeros}
 use Rattle.algebra.specs.Matrix.{Wide, wide-map, times, length-times, times-sum, times-multiple}
-use Rattle.determinant.specs.Inverse.{Square, product, identity, Inverse}
+use Rattle.determinant.specs.Inverse.{Square, product, diagonal, identity, Inverse}
+use Rattle.determinant.specs.Places.{row-replicate, wide-row}
 
 module _ (K : Ring) where
   infixl 66 _⊕_
@@ -35,13 +39,29 @@ module _ (K : Ring) where
 
   pub square-identity : (k : ℕ) → Square k (identity K k)
   unfolding identity
-  square-identity zero = record { rows = refl; wide = tt }
-  square-identity (suc k) =
-      let q = square-identity k in
-      record {
-        rows = ap suc (length-map (identity K k) _ ∙ q .rows);
-        wide = (ap suc (length-replicate k 𝟘), wide-map k (suc k) (λ v. 𝟘 ∷ v) (λ v e. ap suc e) (identity K k) (q .wide));
-      }
+  square-identity k = record { rows = length-row k _; wide = wide-row k k _ (λ i. length-row k _) }
+
+  pub on : (i : ℕ) → diagonal K i i ≡ 𝟙
+  unfolding diagonal
+  on i = cond-true 𝟙 𝟘 (eq-eqb i i refl)
+
+  pub off : (i j : ℕ) → (i ≡ j → ⊥) → diagonal K i j ≡ 𝟘
+  unfolding diagonal
+  off i j n = cond-false 𝟙 𝟘 (ne-eqb i j n)
+
+  next : (i j : ℕ) → diagonal K (suc i) (suc j) ≡ diagonal K i j
+  next i j = go (ℕ-discrete i j)
+    where
+      go : Dec (i ≡ j) → diagonal K (suc i) (suc j) ≡ diagonal K i j
+      go (yes e) = ap (λ k. diagonal K (suc i) (suc k)) (sym e) ∙ on (suc i) ∙ sym (ap (diagonal K i) (sym e) ∙ on i)
+      go (no n) = off (suc i) (suc j) (λ e. n (suc-inj e)) ∙ sym (off i j n)
+
+  -- the identity by its first row and column
+  pub identity-suc : (k : ℕ) → identity K (suc k) ≡ (𝟙 ∷ zeros k) ∷ map (λ row. 𝟘 ∷ row) (identity K k)
+  unfolding identity row
+  identity-suc k =
+      ap₂ _∷_ (ap₂ _∷_ (on 0) (row-ext k _ (λ j. 𝟘) (λ j h. off 0 (suc j) (λ e. omega arith)) ∙ row-replicate k 𝟘))
+      (row-ext k _ _ (λ i h. ap₂ _∷_ (off (suc i) 0 (λ e. omega arith)) (row-ext k _ _ (λ j l. next i j))) ∙ sym (map-row (λ row. 𝟘 ∷ row) k (λ i. row k (diagonal K i))))
 
   pub square-product : (k : ℕ) (A M : List (List R)) → Square k A → Square k M → Square k (product K k A M)
   unfolding product
@@ -66,12 +86,13 @@ module _ (K : Ring) where
 
   -- m I = m
   pub times-identity : (n : ℕ) (m : List R) → length m ≡ n → times K n m (identity K n) ≡ m
-  unfolding times identity zip
+  unfolding times identity row zip
   times-identity zero [] e = refl
   times-identity zero (x ∷ m) e = absurd (omega arith)
   times-identity (suc n) [] e = absurd (omega arith)
   times-identity (suc n) (x ∷ m) e =
-      ap (λ v. (K ._*_ x 𝟙 ∷ x ⊛ zeros n) ⊕ v) (times-shift n m (identity K n) ∙ ap (λ v. 𝟘 ∷ v) (times-identity n m (suc-inj e)))
+      ap (times K (suc n) (x ∷ m)) (identity-suc n)
+      ∙ ap (λ v. (K ._*_ x 𝟙 ∷ x ⊛ zeros n) ⊕ v) (times-shift n m (identity K n) ∙ ap (λ v. 𝟘 ∷ v) (times-identity n m (suc-inj e)))
       ∙ ap₂ _∷_ (K .add-zero (K ._*_ x 𝟙) ∙ K .mul-one x) (ap (λ v. v ⊕ m) (multiple-zeros K x n) ∙ zeros-sum K n m (suc-inj e))
 
   -- A I = A
@@ -92,12 +113,13 @@ module _ (K : Ring) where
 
   -- I M = M
   pub identity-product : (n k : ℕ) (M : List (List R)) → length M ≡ k → Wide n M → product K n (identity K k) M ≡ M
-  unfolding identity product times
+  unfolding identity row product times
   identity-product n zero [] e w = refl
   identity-product n zero (row ∷ M) e w = absurd (omega arith)
   identity-product n (suc k) [] e w = absurd (omega arith)
   identity-product n (suc k) (row ∷ M) e w =
-      ap₂ _∷_
+      ap (λ I. product K n I (row ∷ M)) (identity-suc k)
+      ∙ ap₂ _∷_
       (ap₂ _⊕_ (one-multiple row) (times-zeros n k M (w .1)) ∙ sum-zeros K n row (w .0))
       (product-shift n (identity K k) row M (w .0) (w .1) ∙ identity-product n k M (suc-inj e) (w .1))
 
