@@ -8,7 +8,7 @@ use lib.ListN.{length, getD, take, drop, length-take, length-drop}
 use lib.Seq.{ext-getD, getD-take, getD-drop}
 use Rattle.algebra.specs.Lists.{row, length-row, getD-row, Differ, differ-of}
 use Rattle.algebra.specs.Words.{𝔽₁}
-use Rattle.algebra.specs.WordLists.{elements, toWords, length-elements, getD-elements}
+use Rattle.algebra.specs.WordLists.{elements, toWords, length-elements, length-words, getD-elements}
 use Rattle.foldable.specs.Code.{line, foldAlong}
 use Rattle.foldable.specs.Level.{Level, level, length-level, getD-level}
 use Rattle.residue.specs.Residues.{F, K, el, word, inv, _⊞_, _⊟_, _⊠_}
@@ -43,6 +43,9 @@ module _ {n : ℕ} {t t2 : List ℕ} (D : Diagonals 1 n t t2) (w : List ℕ) (si
   level-of =
       level F n (elements 𝔽₁ t) (elements 𝔽₁ t2) (take n (elements 𝔽₁ w)) (drop n (elements 𝔽₁ w))
       (length-elements 𝔽₁ t ∙ length-first) (length-elements 𝔽₁ t2 ∙ D .second ∙ mul-one n) left (simp length-drop (omega (arith, length-elements 𝔽₁ w))) apart
+
+  pub length-fold-words : length (foldWords n t t2 w a) ≡ n
+  length-fold-words = length-words 𝔽₁ _ ∙ length-level F (line F (el a)) level-of ∙ left
 
   at : (k : ℕ) → k < n
       → getD (foldAlong F n (el a) (elements 𝔽₁ t) (elements 𝔽₁ t2) (elements 𝔽₁ w)) k (K .𝟘)

@@ -14,6 +14,7 @@ use job::Refusal;
 use residue::Residue;
 use residue::scan;
 
+pub mod behind;
 mod lines;
 
 // A block of level 0 cannot be folded.

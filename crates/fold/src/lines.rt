@@ -10,7 +10,7 @@ ghost use Rattle.fold.specs.Steps.{lineBy, linesBy, LinesLent, PlaceLent
 use residue::Residue;
 
 // The value at a of the line through (t, u) and (t', v), where s is the inverse of t' - t.
-fn line(a: Residue, t: Residue, s: Residue, u: Residue, v: Residue) -> Residue
+pub fn line(a: Residue, t: Residue, s: Residue, u: Residue, v: Residue) -> Residue
     requires { ⌜ Low a × Low t × Low s × Low u × Low v ⌝ }
     ensures { λ r. ⌜ r .0 ≡ word (lineBy (elem a) (elem t) (elem s) (elem u) (elem v)) ⌝ }
 {

@@ -5,7 +5,7 @@ use mathlib.Core.List.{List, _++_}
 use Prim.Native.Nat.{ℕ, _+_, _-_, _<_, _≤_}
 use native.Mathlib.Omega.{arith}
 use lib.ListN.{length, take, drop, getD, length-append, length-take, length-drop, List·getD-append}
-use lib.Seq.{getD-take, getD-drop, getD-append-add}
+use lib.Seq.{getD-take, getD-drop, getD-append-add, ext-getD}
 use Rattle.algebra.specs.Order.{lt-or-ge}
 use Rattle.algebra.specs.Lists.{put}
 
@@ -40,6 +40,12 @@ module _ (a : ℕ) (xs o : List ℕ) (fits : a + length xs ≤ length o) where
       ap (λ n. getD (put a xs o) n 0) (sym n)
       ∙ behind (length xs + j) ∙ getD-append-add xs (drop (a + length xs) o) j 0 ∙ getD-drop (a + length xs) o j 0
       ∙ ap (λ n. getD o n 0) e
+
+  -- what lies behind is as it was
+  pub drop-put : (b : ℕ) → a + length xs ≤ b → drop b (put a xs o) ≡ drop b o
+  drop-put b h =
+      ext-getD 0 (drop b (put a xs o)) (drop b o) (length-drop b (put a xs o) ∙ ap (λ n. n - b) length-put ∙ sym (length-drop b o))
+      (λ k l. getD-drop b (put a xs o) k 0 ∙ after (b + k - (a + length xs)) (b + k) (omega arith) ∙ sym (getD-drop b o k 0))
 
   -- what lies apart agrees as before
   pub agrees-below : {l h : ℕ} {new : List ℕ} → h ≤ a → Agrees l h new o → Agrees l h new (put a xs o)

@@ -18,6 +18,7 @@ use Rattle.basefold.specs.Layout.{blockAt, finalAt, openingSize}
 use Rattle.basefold.specs.Written.{opening}
 use Rattle.basefold.specs.Descent.{legal-at, block-below, descend-encode}
 use Rattle.basefold.specs.Rounds.{length-rounds, sent-is, carried-is}
+use Rattle.descend.specs.Descending.{blockAbove}
 use Rattle.foldable.specs.Code.{encode, size, Legal}
 use Rattle.foldable.specs.Encode.{length-encode}
 use Rattle.layout.specs.LayoutLaws.{block-end, block-within}
@@ -88,6 +89,12 @@ module _ (d : ℕ) (g t t' m z r : List ℕ) (n k : ℕ) (𝓦 : WriteInput d g 
   length-target : length target ≡ openingSize (length g) 0 d
   length-target = length-words 𝔽₁ _ ∙ length-opening F 0 (lent g t t') ms zs rs legal ∙ ap₂ (λ a b. openingSize a 0 b) (length-elements 𝔽₁ g) lr
 
+  length-coded : (i : ℕ) → i ≤ d → (M : List Element) → length (toWords 𝔽₁ (encode F (lent g t t') i M)) ≡ length g * 2 ^ i
+  length-coded i h M =
+      length-words 𝔽₁ _
+      ∙ length-encode F (lent g t t') i (legal-at F (lent g t t') (length rs) i (omega (arith, lr)) legal) M
+      ∙ ap (λ a. a * 2 ^ i) (length-elements 𝔽₁ g)
+
   target-round : (i j : ℕ) → i < d → j < 3 → getD target (3 * (d - suc i) + j) 0 ≡ word (h K 0 ms zs rs (suc i) (num K j))
   target-round i j l b =
       getD-words 𝔽₁ O (3 * (d - suc i) + j)
@@ -149,7 +156,22 @@ module _ (d : ℕ) (g t t' m z r : List ℕ) (n k : ℕ) (𝓦 : WriteInput d g 
     up : 2 ^ suc i ≤ 2 * 2 ^ d
     up = omega (arith, pow-mono (𝓖 .level))
 
-    pub round-input : RoundInput d i w g t t' z r (length o) s
+    above-is : elements 𝔽₁ (take (2 ^ suc i) s) ≡ left (suc i)
+    above-is = ap (elements 𝔽₁) (𝓖 .message) ∙ elements-words 𝔽₁ (left (suc i))
+
+    -- the block above, where it lies in the opening, is the codeword of what is left
+    upper : suc i < d → blockAbove d i (length g) o ≡ codeword (suc i) g t t' (take (2 ^ suc i) s)
+    upper l =
+        let b = blockAt (length g) 0 d (suc i) in
+        let n = length g * 2 ^ suc i in
+        let long : length (take n (drop b o)) ≡ n = simp (length-take, length-drop) (omega (arith, block-within (length g) d (suc i) l, 𝓖 .size)) in
+        ext-getD 0 (take n (drop b o)) (toWords 𝔽₁ (encode F (lent g t t') (suc i) (left (suc i))))
+        (long ∙ sym (length-coded (suc i) (omega arith) (left (suc i))))
+        (λ k h. getD-take n (drop b o) k 0 (omega (arith, long)) ∙ getD-drop b o k 0
+        ∙ 𝓖 .blocks .at (b + k) (omega arith) (omega (arith, long, block-end (length g) d (suc i) l)) ∙ target-block (suc i) k l (omega (arith, long)))
+        ∙ ap (λ M. toWords 𝔽₁ (encode F (lent g t t') (suc i) M)) (sym above-is)
+
+    pub round-input : RoundInput d i w g t t' z r o s
     round-input =
         record {
           level = below;
@@ -163,10 +185,8 @@ module _ (d : ℕ) (g t t' m z r : List ℕ) (n k : ℕ) (𝓦 : WriteInput d g 
           low' = 𝓦 .challenges-low;
           size = 𝓖 .size;
           above = record { room = omega (arith, up, 𝓖 .room); low = rw (𝓖 .message) (low-words 𝔽₁ (left (suc i))) };
+          upper = upper;
         }
-
-    above-is : elements 𝔽₁ (take (2 ^ suc i) s) ≡ left (suc i)
-    above-is = ap (elements 𝔽₁) (𝓖 .message) ∙ elements-words 𝔽₁ (left (suc i))
 
     left-is : leftOf i (getD r i 0) s ≡ left i
     left-is =
@@ -206,10 +226,7 @@ module _ (d : ℕ) (g t t' m z r : List ℕ) (n k : ℕ) (𝓦 : WriteInput d g 
       block-is = ap (λ M. toWords 𝔽₁ (encode F (lent g t t') i M)) (ap (elements 𝔽₁) front ∙ elements-words 𝔽₁ (left i))
 
       length-block : length block ≡ length g * 2 ^ i
-      length-block =
-          length-words 𝔽₁ _
-          ∙ length-encode F (lent g t t') i (legal-at F (lent g t t') (length rs) i (omega (arith, lr, below)) legal) _
-          ∙ ap (λ a. a * 2 ^ i) (length-elements 𝔽₁ g)
+      length-block = length-coded i (omega (arith, below)) _
 
       pub before-next : BeforeRound d g t t' m z r i v o' s'
       before-next =

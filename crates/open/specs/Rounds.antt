@@ -6,13 +6,25 @@ use lib.ListN.{length, take}
 use Rattle.algebra.specs.Lists.{put}
 use Rattle.algebra.specs.WordLists.{Low as LowWords}
 use Rattle.basefold.specs.Layout.{roundAt, blockAt, openingSize}
+use Rattle.descend.specs.Descending.{blockAbove, foldedAbove}
 use Rattle.job.specs.Limits.{maxDepth, maxRate}
 use Rattle.parameters.specs.Lent.{codeword, Coding}
 use Rattle.residue.specs.declared.Residue.{Residue}
 use Rattle.residue.specs.Residues.{P, Low}
-use Rattle.steps.specs.Steps.{LeftAbove, sentWords, TakeChallengeResult}
+use Rattle.steps.specs.Steps.{LeftAbove, sentWords, TakeChallengeResult, GiveBlockInput}
 
-pub record RoundInput (d i : ℕ) (w : Residue) (g t t' z r : List ℕ) (n : ℕ) (s : List ℕ) : Type 0 where
+-- the block of level i + 1 in the opening folds by r_i into the codeword of what is left in s
+pub record Follows (d i : ℕ) (g t t' r o s : List ℕ) : Type 0 where
+  pub block : LowWords P (blockAbove d i (length g) o)
+  pub folded : foldedAbove d i (length g) t t' r o ≡ codeword i g t t' (take (2 ^ i) s)
+
+pub record BlockInput (d i : ℕ) (g t t' r o s : List ℕ) : Type 0 where
+  pub encodes : GiveBlockInput d i g t t' (length o) s
+  pub challenge : i < length r
+  pub low : LowWords P r
+  pub follows : suc i < d → Follows d i g t t' r o s
+
+pub record RoundInput (d i : ℕ) (w : Residue) (g t t' z r o s : List ℕ) : Type 0 where
   pub level : i < d
   pub deep : d ≤ maxDepth
   pub wide : length g ≤ maxRate
@@ -22,8 +34,9 @@ pub record RoundInput (d i : ℕ) (w : Residue) (g t t' z r : List ℕ) (n : ℕ
   pub challenges : length r ≡ d
   pub low : LowWords P z
   pub low' : LowWords P r
-  pub size : n ≡ openingSize (length g) 0 d
+  pub size : length o ≡ openingSize (length g) 0 d
   pub above : LeftAbove i s
+  pub upper : suc i < d → blockAbove d i (length g) o ≡ codeword (suc i) g t t' (take (2 ^ suc i) s)
 
 -- the weight v, the opening o' and the work buffer s'
 pub record RoundResult (d i : ℕ) (w : Residue) (g t t' z r o s : List ℕ) (v : Residue) (o' s' : List ℕ) : Type 0 where

@@ -1,11 +1,49 @@
 // The rounds of an opening, from the top variable down.
 ghost use mathlib.Core.Path.{_≡_};
-ghost use Prim.Native.Nat.{_^_};
+ghost use mathlib.Core.Bool.{true};
+ghost use Prim.Native.Nat.{_+_, _^_, _<_};
 ghost use lib.ListN.{length, take, getD, set};
-ghost use Rattle.basefold.specs.Layout.{finalAt};
-ghost use Rattle.open.specs.Rounds.{RoundInput, RoundResult};
+ghost use Rattle.algebra.specs.Lists.{put};
+ghost use Rattle.basefold.specs.Layout.{finalAt, blockAt};
+ghost use Rattle.parameters.specs.Lent.{codeword};
+ghost use Rattle.open.specs.Rounds.{BlockInput, RoundInput, RoundResult};
 ghost use Rattle.open.specs.Writing.{openingWords, WriteInput};
 use residue::Residue;
+
+// The blocks below this level are so short that encoding takes less time than the one inversion of a fold.
+const FOLDED_FROM: u32 = 6;
+
+// Whether the block of level i is made from the block above it, which has to lie in the opening.
+fn folds(depth: u32, i: u32) -> bool
+    requires { ⌜ i < depth ⌝ }
+    ensures { λ b. ⌜ (b ≡ true → i + 1 < depth) ⌝ }
+{
+    if i < FOLDED_FROM {
+        return false;
+    }
+    i + 1 < depth
+}
+
+// The block of level i, the codeword of what is left, into its place: the fold of the block above it, or encoded.
+fn block(
+    depth: u32,
+    i: u32,
+    g: &[u32],
+    t: &[u32],
+    t2: &[u32],
+    r: &[u32],
+    opening: &mut [u32],
+    work: &[u32],
+)
+    requires { ⌜ BlockInput depth i (now g) (now t) (now t2) (now r) (now opening) (now work) ⌝ }
+    ensures { λ _. ⌜ now (opening .exit) ≡ put (blockAt (length (now (g .entry))) 0 depth i) (codeword i (now (g .entry)) (now (t .entry)) (now (t2 .entry)) (take (2 ^ i) (now (work .entry)))) (now (opening .entry)) ⌝ }
+{
+    if folds(depth, i) {
+        descend::fold_block(depth, i, g, t, t2, r, opening);
+        return;
+    }
+    steps::give_block(depth, i, g, t, t2, opening, work);
+}
 
 // From level i + 1 to level i; the new weight.
 fn round(
@@ -20,12 +58,12 @@ fn round(
     opening: &mut [u32],
     work: &mut [u32],
 ) -> Residue
-    requires { ⌜ RoundInput depth i w (now g) (now t) (now t2) (now z) (now r) (length (now opening)) (now work) ⌝ }
+    requires { ⌜ RoundInput depth i w (now g) (now t) (now t2) (now z) (now r) (now opening) (now work) ⌝ }
     ensures { λ v. ⌜ RoundResult depth i w (now (g .entry)) (now (t .entry)) (now (t2 .entry)) (now (z .entry)) (now (r .entry)) (now (opening .entry)) (now (work .entry)) v (now (opening .exit)) (now (work .exit)) ⌝ }
 {
     steps::give_round(depth, i, w, z, opening, work);
     let v = steps::take_challenge(i, w, z, r, work);
-    steps::give_block(depth, i, g, t, t2, opening, work);
+    block(depth, i, g, t, t2, r, opening, work);
     v
 }
 

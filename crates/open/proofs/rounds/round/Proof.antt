@@ -9,8 +9,8 @@ give-round-requires c κs = search needs
 take-challenge-requires : tie.Need-take-challenge-requires
 take-challenge-requires c κs = search needs
 
-give-block-requires : tie.Need-give-block-requires
-give-block-requires c κs = let s = c .before .before .before .before .before .before .before .before .before .before .before .before .before .before .before .before .before .before in let a = s .args in block-input (a .depth) (a .i) (a .w) (a .g .now) (a .t .now) (a .t2 .now) _ _ _ (a .work .now) (s .pre) _ _ _ _ (c .before .before .before .before .take-challenge .ensures) _ (c .before .before .before .before .before .before .before .before .give-round .kept .1 .1 .1 .1 .0)
+block-requires : tie.Need-block-requires
+block-requires c κs = let s = c .before .before .before .before .before .before .before .before .before .before .before .before .before .before .before .before .before .before in let a = s .args in block-input (a .depth) (a .i) (a .w) (a .g .now) (a .t .now) (a .t2 .now) (a .z .now) (a .r .now) (a .opening .now) (a .work .now) (s .pre) _ _ (c .before .before .before .before .take-challenge .ensures) _ (c .before .before .before .before .before .before .before .before .give-round .ensures) (c .before .before .before .before .before .before .before .before .give-round .kept .1 .1 .1 .1 .0)
 
 same-length : tie.Need-same-length
 same-length c = search needs
@@ -19,7 +19,7 @@ same-length-2 : tie.Need-same-length-2
 same-length-2 c = search needs
 
 returns : tie.Need-returns
-returns c = let a = c .before .before .before .before .before .before .before .before .before .before .before .before .before .before .before .before .before .before .before .before .before .args in round-result (a .depth) (a .i) (a .w) (a .g .now) (a .t .now) (a .t2 .now) (a .z .now) (a .r .now) (a .work .now) _ _ (c .before .before .before .before .before .before .before .take-challenge .ensures) (a .opening .now) _ _ (c .before .before .before .before .before .before .before .before .before .before .before .give-round .ensures) (c .before .before .give-block .ensures)
+returns c = let a = c .before .before .before .before .before .before .before .before .before .before .before .before .before .before .before .before .before .before .before .before .before .args in round-result (a .depth) (a .i) (a .w) (a .g .now) (a .t .now) (a .t2 .now) (a .z .now) (a .r .now) (a .work .now) _ _ (c .before .before .before .before .before .before .before .take-challenge .ensures) (a .opening .now) _ _ (c .before .before .before .before .before .before .before .before .before .before .before .give-round .ensures) (c .before .before .block .ensures)
 
 pub round-spec : {M : Type 1} → statement M
 round-spec =
@@ -27,7 +27,7 @@ round-spec =
     (tie.spec
     give-round-requires
     take-challenge-requires
-    give-block-requires
+    block-requires
     same-length
     same-length-2
     returns)

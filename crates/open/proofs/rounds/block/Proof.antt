@@ -1,0 +1,37 @@
+use Rattle.open.proofs.OneRound.{fold-input, fold-given}
+use borrow.Author.Needs.{needs}
+use Rattle.open.proofs.rounds.block.Statement.{statement}
+use Rattle.open.proofs.rounds.block.Tie as tie
+
+folds-requires : tie.Need-folds-requires
+folds-requires c κs = search needs
+
+fold-block-requires : tie.Need-fold-block-requires
+fold-block-requires c κs = let s = c .before .before .before .before .before .before .before .before .before in let a = s .args in fold-input (a .depth) (a .i) (a .g .now) (a .t .now) (a .t2 .now) (a .r .now) (a .opening .now) (a .work .now) (s .pre) (c .before .before .folds .ensures (c .before .if1 .taken))
+
+same-length : tie.Need-same-length
+same-length c = search needs
+
+returns : tie.Need-returns
+returns c = let s = c .before .before .before .before .before .before .before .before .before .before .before .before in let a = s .args in fold-given (a .depth) (a .i) (a .g .now) (a .t .now) (a .t2 .now) (a .r .now) (a .opening .now) (a .work .now) (s .pre) (c .before .before .before .before .before .folds .ensures (c .before .before .before .before .if1 .taken)) _ (c .before .before .fold-block .ensures)
+
+give-block-requires : tie.Need-give-block-requires
+give-block-requires c κs = search needs
+
+same-length-2 : tie.Need-same-length-2
+same-length-2 c = search needs
+
+returns-2 : tie.Need-returns-2
+returns-2 c = search needs
+
+pub block-spec : {M : Type 1} → statement M
+block-spec =
+    tie.close
+    (tie.spec
+    folds-requires
+    fold-block-requires
+    same-length
+    returns
+    give-block-requires
+    same-length-2
+    returns-2)
