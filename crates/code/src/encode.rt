@@ -35,8 +35,9 @@ fn judge(depth: u32, rate: u32, g: &[u32], t: &[u32], t2: &[u32], m: &[u32], out
     ensures { λ r. ⌜ outcome r ≡ judgeEncoding depth rate (now (g .entry)) (now (t .entry)) (now (t2 .entry)) (now (m .entry)) out ⌝ }
 {
     let lengths = lengths_ok(depth, rate, g.len(), t.len(), t2.len(), m.len(), out);
-    let words = parameters::all_words_ok(lengths, g, t, t2, m);
-    parameters::judge(depth, rate, g, t, t2, lengths, words)
+    let row = parameters::scan_row(lengths, g, t, t2);
+    let words = parameters::all_words_ok(row.words, m);
+    parameters::judge(depth, rate, g, lengths, words, row.apart)
 }
 
 pub fn encode(

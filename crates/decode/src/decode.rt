@@ -126,8 +126,9 @@ fn judge(
         out,
         work,
     );
-    let words = parameters::all_words_ok(lengths, g, t, t2, block);
-    parameters::judge(depth, rate, g, t, t2, lengths, words)
+    let row = parameters::scan_row(lengths, g, t, t2);
+    let words = parameters::all_words_ok(row.words, block);
+    parameters::judge(depth, rate, g, lengths, words, row.apart)
 }
 
 pub fn decode(

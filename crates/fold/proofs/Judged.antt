@@ -5,7 +5,7 @@ use mathlib.Core.List.{List}
 use Prim.Native.Nat.{ℕ, suc, _+_, _*_, _-_, _^_, _<_, _≤_}
 use native.Mathlib.Nat.{mul-one}
 use native.Mathlib.Omega.{arith}
-use lib.Dec.{leb, eqb}
+use lib.Dec.{leb, ltb, eqb}
 use lib.ListN.{length}
 use borrow.Author.Tests.{leb-true, ltb-true, eqb-true}
 use Rattle.algebra.specs.Flags.{passes}
@@ -70,35 +70,37 @@ module _ (level rate : ℕ) (t t2 block : List ℕ) (a out : ℕ) where
   abbrev L : Bool
   L = lengthsOk level rate (length t) (length t2) (length block) out
 
-  abbrev W : Bool
-  W = wordsOk t t2 block a
-
   abbrev D : Bool
   D = allDiffer t t2
 
-  -- the chain as it is judged, where a later test is only asked if the earlier ones hold
-  pub judged : {upper fair lengths words apart : Bool} {six four three two r : Outcome (Unit {0})}
+  -- the chain as it is judged, where words are only read if the lengths are right
+  pub judged : {upper fair lengths low words apart : Bool} {six four three two r : Outcome (Unit {0})}
       → upper ≡ levelOk level → fair ≡ rateOk rate → lengths ≡ (foldLimits level rate && lengthsOk level rate (length t) (length t2) (length block) out)
-      → words ≡ (lengths && wordsOk t t2 block a) → apart ≡ (words && allDiffer t t2)
+      → low ≡ (lengths && (allBelow t && allBelow t2)) → apart ≡ (lengths && allDiffer t t2) → words ≡ (low && (allBelow block && ltb a P))
       → six ≡ require apart 6 ⨾ done tt → four ≡ require words 4 ⨾ six → three ≡ require lengths 3 ⨾ four → two ≡ require fair 2 ⨾ three → r ≡ require upper 1 ⨾ two
       → r ≡ judgeFolding level rate t t2 block a out
-  unfolding judgeFolding
-  judged e f g h i p q r s u =
+  unfolding judgeFolding wordsOk
+  judged {lengths = lengths} {words = words} e f g h i w p q r s u =
+      let all : words ≡ ((lengths && (allBelow t && allBelow t2)) && (allBelow block && ltb a P)) = w ∙ ap (λ b. b && (allBelow block && ltb a P)) h in
       u ∙ (λ k. require (e k) 1 ⨾ s k) ∙ (λ k. require A 1 ⨾ require (f k) 2 ⨾ r k)
-      ∙ (λ k. require A 1 ⨾ require B 2 ⨾ require (g k) 3 ⨾ q k)
-      ∙ (λ k. require A 1 ⨾ require B 2 ⨾ require ((A && B) && L) 3 ⨾ require ((h ∙ ap (λ b. b && W) g) k) 4 ⨾ p k)
-      ∙ (λ k. require A 1 ⨾ require B 2 ⨾ require ((A && B) && L) 3 ⨾ require (((A && B) && L) && W) 4 ⨾ require ((i ∙ ap (λ b. b && D) (h ∙ ap (λ b. b && W) g)) k) 6 ⨾ done tt)
-      ∙ by A B L W D
+      ∙ (λ k. require A 1 ⨾ require B 2 ⨾ require lengths 3 ⨾ q k)
+      ∙ (λ k. require A 1 ⨾ require B 2 ⨾ require lengths 3 ⨾ require (all k) 4 ⨾ p k)
+      ∙ (λ k. require A 1 ⨾ require B 2 ⨾ require lengths 3 ⨾ require ((lengths && (allBelow t && allBelow t2)) && (allBelow block && ltb a P)) 4 ⨾ require (i k) 6 ⨾ done tt)
+      ∙ (λ k. require A 1 ⨾ require B 2 ⨾ require (g k) 3 ⨾ require ((g k && (allBelow t && allBelow t2)) && (allBelow block && ltb a P)) 4 ⨾ require (g k && D) 6 ⨾ done tt)
+      ∙ by A B L (allBelow t) (allBelow t2) (allBelow block) (ltb a P) D
     where
-      by : (a b l w d : Bool)
-          → require a 1 ⨾ require b 2 ⨾ require ((a && b) && l) 3 ⨾ require (((a && b) && l) && w) 4 ⨾ require ((((a && b) && l) && w) && d) 6 ⨾ done tt
-          ≡ require a 1 ⨾ require b 2 ⨾ require l 3 ⨾ require w 4 ⨾ require d 6
-      by false b l w d = refl
-      by true false l w d = refl
-      by true true false w d = refl
-      by true true true false d = refl
-      by true true true true false = refl
-      by true true true true true = refl
+      by : (a b l x y z v d : Bool)
+          → require a 1 ⨾ require b 2 ⨾ require ((a && b) && l) 3 ⨾ require ((((a && b) && l) && (x && y)) && (z && v)) 4 ⨾ require (((a && b) && l) && d) 6 ⨾ done tt
+          ≡ require a 1 ⨾ require b 2 ⨾ require l 3 ⨾ require ((x && (y && z)) && v) 4 ⨾ require d 6
+      by false b l x y z v d = refl
+      by true false l x y z v d = refl
+      by true true false x y z v d = refl
+      by true true true false y z v d = refl
+      by true true true true false z v d = refl
+      by true true true true true false v d = refl
+      by true true true true true true false d = refl
+      by true true true true true true true false = refl
+      by true true true true true true true true = refl
 
   -- what holds where no refusal is due
   pub record NoRefusalDue : Type 0 where

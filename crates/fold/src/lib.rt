@@ -2,17 +2,19 @@
 ghost use mathlib.Core.Path.{_≡_};
 ghost use mathlib.Core.Bool.{_&&_};
 ghost use Prim.Native.Nat.{_+_};
+ghost use lib.Dec.{ltb};
 ghost use lib.ListN.{length};
 ghost use Rattle.algebra.specs.WordLists.{Low as LowWords};
 ghost use Rattle.job.specs.Outcome.{outcome};
 ghost use Rattle.residue.specs.Residues.{P, Low};
-ghost use Rattle.residue.specs.Scans.{allDiffer};
+ghost use Rattle.residue.specs.Scans.{allBelow, allDiffer};
 ghost use Rattle.inversion.specs.Inversion.{Diagonals};
-ghost use Rattle.fold.specs.Job.{levelOk, foldLimits, lengthsOk, wordsOk, judgeFolding, foldWords, Folded};
+ghost use Rattle.fold.specs.Job.{levelOk, foldLimits, lengthsOk, judgeFolding, foldWords, Folded};
 use job::Answer;
 use job::Refusal;
 use residue::Residue;
 use residue::scan;
+use residue::scan::PairScan;
 
 pub mod behind;
 mod lines;
@@ -56,30 +58,33 @@ fn lengths_ok(level: u32, rate: u32, t: usize, t2: usize, block: usize, out: usi
     out == n
 }
 
-// Whether all words are below the modulus, where the lengths are right.
-fn words_ok(lengths: bool, t: &[u32], t2: &[u32], block: &[u32], challenge: u32) -> bool
-    ensures { λ r. ⌜ r ≡ (lengths && wordsOk (now (t .entry)) (now (t2 .entry)) (now (block .entry)) challenge) ⌝ }
+// Whether all words are below the modulus, where those of the diagonals are.
+fn words_ok(diagonals: bool, block: &[u32], challenge: u32) -> bool
+    ensures { λ r. ⌜ r ≡ (diagonals && (allBelow (now (block .entry)) && ltb challenge P)) ⌝ }
 {
-    if !lengths {
+    if !diagonals {
         return false;
     }
-    if !scan::three_below(t, t2, block) {
+    if !scan::all_below(block) {
         return false;
     }
     challenge < Residue::MODULUS
 }
 
-// Whether T and T' differ in every place, where all words are below the modulus.
-fn diagonals_ok(words: bool, t: &[u32], t2: &[u32]) -> bool
-    ensures { λ r. ⌜ r ≡ (words && allDiffer (now (t .entry)) (now (t2 .entry))) ⌝ }
+// Of the diagonals, where the lengths are right.
+fn scan_diagonals(lengths: bool, t: &[u32], t2: &[u32]) -> PairScan
+    ensures { λ r. ⌜ (r .below ≡ (lengths && (allBelow (now (t .entry)) && allBelow (now (t2 .entry))))) × (r .apart ≡ (lengths && allDiffer (now (t .entry)) (now (t2 .entry)))) ⌝ }
 {
-    if !words {
-        return false;
+    if !lengths {
+        return PairScan {
+            below: false,
+            apart: false,
+        };
     }
-    scan::all_differ(t, t2)
+    scan::scan_pair(t, t2)
 }
 
-// The first refusal that is due. A later test is not run where an earlier one fails.
+// The first refusal that is due. Nothing is read where the lengths are not right.
 fn judge(
     level: u32,
     rate: u32,
@@ -94,8 +99,9 @@ fn judge(
     let upper = level_ok(level);
     let fair = job::rate_ok(rate);
     let lengths = lengths_ok(level, rate, t.len(), t2.len(), block.len(), out);
-    let words = words_ok(lengths, t, t2, block, challenge);
-    let apart = diagonals_ok(words, t, t2);
+    let diagonals = scan_diagonals(lengths, t, t2);
+    let words = words_ok(diagonals.below, block, challenge);
+    let apart = diagonals.apart;
     let six = job::require(apart, Refusal::Diagonals, Answer::Done);
     let four = job::require(words, Refusal::Word, six);
     let three = job::require(lengths, Refusal::Length, four);

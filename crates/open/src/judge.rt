@@ -4,7 +4,7 @@ ghost use mathlib.Core.Bool.{_&&_};
 ghost use Prim.Native.Nat.{_≤_};
 ghost use Rattle.job.specs.Outcome.{outcome};
 ghost use Rattle.job.specs.Limits.{maxDepth, maxRate};
-ghost use Rattle.parameters.specs.Parameters.{inLimits, rowWords};
+ghost use Rattle.parameters.specs.Parameters.{inLimits};
 ghost use Rattle.open.specs.Writing.{inputLengths, bufferLengths, writeLengths, inputWords, judgeWriting};
 use job::Answer;
 use residue::scan;
@@ -58,19 +58,11 @@ fn lengths_ok(
     buffers_ok(depth, rate, o, s)
 }
 
-// Whether all words are below the modulus, where all lengths are right.
-fn words_ok(
-    lengths: bool,
-    g: &[u32],
-    t: &[u32],
-    t2: &[u32],
-    m: &[u32],
-    z: &[u32],
-    r: &[u32],
-) -> bool
-    ensures { λ b. ⌜ b ≡ (lengths && (rowWords (now (g .entry)) (now (t .entry)) (now (t2 .entry)) && inputWords (now (m .entry)) (now (z .entry)) (now (r .entry)))) ⌝ }
+// Whether all words are below the modulus, where those of row and diagonals are.
+fn words_ok(row: bool, m: &[u32], z: &[u32], r: &[u32]) -> bool
+    ensures { λ b. ⌜ b ≡ (row && inputWords (now (m .entry)) (now (z .entry)) (now (r .entry))) ⌝ }
 {
-    if !parameters::words_ok(lengths, g, t, t2) {
+    if !row {
         return false;
     }
     scan::three_below(m, z, r)
@@ -102,6 +94,7 @@ pub fn judge(
         o,
         s,
     );
-    let words = words_ok(lengths, g, t, t2, m, z, r);
-    parameters::judge(depth, rate, g, t, t2, lengths, words)
+    let row = parameters::scan_row(lengths, g, t, t2);
+    let words = words_ok(row.words, m, z, r);
+    parameters::judge(depth, rate, g, lengths, words, row.apart)
 }

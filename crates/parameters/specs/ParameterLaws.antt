@@ -7,7 +7,7 @@ use native.Mathlib.Omega.{arith}
 use lib.Dec.{eqb}
 use lib.ListN.{length}
 use borrow.Author.Tests.{eqb-true}
-use Rattle.algebra.specs.Tests.{and-both}
+use Rattle.algebra.specs.Tests.{and-both, and-assoc}
 use Rattle.algebra.specs.WordLists.{Low}
 use Rattle.job.specs.Outcome.{Outcome, refused, done, require, _⨾_}
 use Rattle.job.specs.OutcomeLaws.{require-done, held, require-number, after-number}
@@ -17,23 +17,22 @@ use Rattle.residue.specs.Scans.{allBelow, noneZero, allDiffer}
 use Rattle.residue.specs.ScanLaws.{all-below}
 use Rattle.parameters.specs.Lent.{Coding}
 use Rattle.parameters.specs.LentLaws.{coding}
-use Rattle.parameters.specs.Parameters.{limits, inLimits, rowLengths, rowWords, legalRow, judgeRow}
+use Rattle.parameters.specs.Parameters.{limits, inLimits, rowLengths, rowWords, legalRow, RowScanned, judgeFlags, judgeRow}
 
--- the chain as it is judged, where a later test is only asked if the earlier ones hold
-pub judged : (d c : ℕ) (g t t' : List ℕ) (l w : Bool) {shallow fair row apart : Bool} {six five four three two out : Outcome (Unit {0})}
-    → shallow ≡ depthOk d → fair ≡ rateOk c → row ≡ (w && noneZero g) → apart ≡ (row && allDiffer t t')
-    → six ≡ require apart 6 ⨾ done tt → five ≡ require row 5 ⨾ six → four ≡ require w 4 ⨾ five → three ≡ require l 3 ⨾ four
-    → two ≡ require fair 2 ⨾ three → out ≡ require shallow 1 ⨾ two → out ≡ judgeRow d c g t t' l w
-judged d c g t t' l w e f h i p q r s u v =
+-- the chain as it is judged, where the row is only asked if the words pass
+pub judged : (d c : ℕ) (g : List ℕ) (l w x : Bool) {shallow fair row : Bool} {six five four three two out : Outcome (Unit {0})}
+    → shallow ≡ depthOk d → fair ≡ rateOk c → row ≡ (w && noneZero g)
+    → six ≡ require x 6 ⨾ done tt → five ≡ require row 5 ⨾ six → four ≡ require w 4 ⨾ five → three ≡ require l 3 ⨾ four
+    → two ≡ require fair 2 ⨾ three → out ≡ require shallow 1 ⨾ two → out ≡ judgeFlags d c g l w x
+judged d c g l w x e f h p q r s u v =
     v ∙ (λ k. require (e k) 1 ⨾ u k) ∙ (λ k. require (depthOk d) 1 ⨾ require (f k) 2 ⨾ s k)
     ∙ (λ k. require (depthOk d) 1 ⨾ require (rateOk c) 2 ⨾ require l 3 ⨾ r k)
     ∙ (λ k. require (depthOk d) 1 ⨾ require (rateOk c) 2 ⨾ require l 3 ⨾ require w 4 ⨾ q k)
     ∙ (λ k. require (depthOk d) 1 ⨾ require (rateOk c) 2 ⨾ require l 3 ⨾ require w 4 ⨾ require (h k) 5 ⨾ p k)
-    ∙ (λ k. require (depthOk d) 1 ⨾ require (rateOk c) 2 ⨾ require l 3 ⨾ require w 4 ⨾ require (w && noneZero g) 5 ⨾ require ((i ∙ ap (λ b. b && allDiffer t t') h) k) 6 ⨾ done tt)
-    ∙ by (depthOk d) (rateOk c) l w (noneZero g) (allDiffer t t')
+    ∙ by (depthOk d) (rateOk c) l w (noneZero g) x
   where
     by : (a b l w n x : Bool)
-        → require a 1 ⨾ require b 2 ⨾ require l 3 ⨾ require w 4 ⨾ require (w && n) 5 ⨾ require ((w && n) && x) 6 ⨾ done tt
+        → require a 1 ⨾ require b 2 ⨾ require l 3 ⨾ require w 4 ⨾ require (w && n) 5 ⨾ require x 6 ⨾ done tt
         ≡ (require a 1 ⨾ require b 2) ⨾ require l 3 ⨾ require w 4 ⨾ require n 5 ⨾ require x 6
     by false b l w n x = refl
     by true false l w n x = refl
@@ -43,23 +42,26 @@ judged d c g t t' l w e f h i p q r s u v =
     by true true true true true false = refl
     by true true true true true true = refl
 
--- a test that is only asked within the limits, and one that is only asked where the lengths are right
-pub judge-guarded : (d c : ℕ) (g t t' : List ℕ) (l w : Bool) → judgeRow d c g t t' (inLimits d c && l) ((inLimits d c && l) && w) ≡ judgeRow d c g t t' l w
+-- a test of lengths that is only asked within the limits, and tests of words and diagonals that are only asked where the lengths are right
+judge-guarded : (d c : ℕ) (g t t' : List ℕ) (l w : Bool)
+    → judgeFlags d c g (inLimits d c && l) ((inLimits d c && l) && w) ((inLimits d c && l) && allDiffer t t') ≡ judgeRow d c g t t' l w
 judge-guarded d c g t t' l w = by (depthOk d) (rateOk c) l
   where
     by : (a b l : Bool)
-        → (require a 1 ⨾ require b 2) ⨾ require ((a && b) && l) 3 ⨾ require (((a && b) && l) && w) 4 ⨾ legalRow g t t'
+        → (require a 1 ⨾ require b 2) ⨾ require ((a && b) && l) 3 ⨾ require (((a && b) && l) && w) 4 ⨾ require (noneZero g) 5 ⨾ require (((a && b) && l) && allDiffer t t') 6
         ≡ (require a 1 ⨾ require b 2) ⨾ require l 3 ⨾ require w 4 ⨾ legalRow g t t'
     by true true true = refl
     by true true false = refl
     by true false l = refl
     by false b l = refl
 
--- a job is judged by flags, where those of the later tests are guarded by the earlier ones
-pub judged-by : (d c : ℕ) (g t t' : List ℕ) (L W : Bool) {l w : Bool} {out : Outcome (Unit {0})}
-    → l ≡ (inLimits d c && L) → w ≡ (l && W) → out ≡ judgeRow d c g t t' l w → out ≡ judgeRow d c g t t' L W
-judged-by d c g t t' L W e f h =
-    h ∙ (λ i. judgeRow d c g t t' (e i) ((f ∙ ap (λ b. b && W) e) i)) ∙ judge-guarded d c g t t' L W
+-- a job is judged by flags: row is that of the words of g, T and T', and w asks the other words too
+pub judged-by : (d c : ℕ) (g t t' : List ℕ) (L W : Bool) {l row apart w : Bool} {out : Outcome (Unit {0})}
+    → l ≡ (inLimits d c && L) → RowScanned l g t t' row apart → w ≡ (row && W) → out ≡ judgeFlags d c g l w apart → out ≡ judgeRow d c g t t' L (rowWords g t t' && W)
+judged-by d c g t t' L W {l} {row} {apart} {w} e 𝓢 f h =
+    let words : w ≡ (l && (rowWords g t t' && W)) = f ∙ ap (λ b. b && W) (𝓢 .words-is) ∙ and-assoc l (rowWords g t t') W in
+    h ∙ (λ i. judgeFlags d c g (e i) ((words ∙ ap (λ b. b && (rowWords g t t' && W)) e) i) ((𝓢 .apart-is ∙ ap (λ b. b && allDiffer t t') e) i))
+    ∙ judge-guarded d c g t t' L (rowWords g t t' && W)
 
 -- its refusals are 1 to 6
 pub judge-number : (Q : ℕ → Type 0) → ((k : ℕ) → 1 ≤ k → k ≤ 6 → Q k) → (d c : ℕ) (g t t' : List ℕ) (l w : Bool) {n : ℕ} → judgeRow d c g t t' l w ≡ refused n → Q n

@@ -1,4 +1,5 @@
 -- What a job that is lent a base row and the diagonals of all levels judges, in the order of the refusals 1 to 6. Definitions only. Assumes nothing.
+use mathlib.Core.Path.{_≡_}
 use mathlib.Core.Bool.{Bool, _&&_}
 use mathlib.Core.List.{List}
 use Prim.Native.Nat.{ℕ}
@@ -23,6 +24,15 @@ rowWords g t t' = allBelow g && (allBelow t && allBelow t')
 
 abbrev pub legalRow : List ℕ → List ℕ → List ℕ → Outcome (Unit {0})
 legalRow g t t' = require (noneZero g) 5 ⨾ require (allDiffer t t') 6
+
+-- what one pass over them finds: the tests for 4 and 6, where the lengths are right
+pub record RowScanned (lengths : Bool) (g t t' : List ℕ) (words apart : Bool) : Type 0 where
+  pub words-is : words ≡ (lengths && rowWords g t t')
+  pub apart-is : apart ≡ (lengths && allDiffer t t')
+
+-- the refusals 1 to 6 by flags
+abbrev pub judgeFlags : ℕ → ℕ → List ℕ → Bool → Bool → Bool → Outcome (Unit {0})
+judgeFlags d c g lengths words apart = limits d c ⨾ require lengths 3 ⨾ require words 4 ⨾ require (noneZero g) 5 ⨾ require apart 6
 
 -- a job's refusals 1 to 6, by its own tests of all lengths and of all words
 abbrev pub judgeRow : ℕ → ℕ → List ℕ → List ℕ → List ℕ → Bool → Bool → Outcome (Unit {0})

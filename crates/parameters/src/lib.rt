@@ -2,8 +2,8 @@
 ghost use mathlib.Core.Path.{_≡_};
 ghost use mathlib.Core.Bool.{_&&_};
 ghost use Rattle.job.specs.Outcome.{outcome};
-ghost use Rattle.residue.specs.Scans.{allBelow, noneZero, allDiffer};
-ghost use Rattle.parameters.specs.Parameters.{inLimits, rowLengths, rowWords, judgeRow};
+ghost use Rattle.residue.specs.Scans.{allBelow, noneZero};
+ghost use Rattle.parameters.specs.Parameters.{inLimits, rowLengths, RowScanned, judgeFlags};
 use job::Answer;
 use job::Refusal;
 use residue::scan;
@@ -34,21 +34,36 @@ pub fn lengths_ok(depth: u32, rate: u32, g: usize, t: usize, t2: usize) -> bool
     t2 == n
 }
 
-// Whether all words of g, t and t2 are below the modulus, where all lengths are right.
-pub fn words_ok(lengths: bool, g: &[u32], t: &[u32], t2: &[u32]) -> bool
-    ensures { λ r. ⌜ r ≡ (lengths && rowWords (now (g .entry)) (now (t .entry)) (now (t2 .entry))) ⌝ }
-{
-    if !lengths {
-        return false;
-    }
-    scan::three_below(g, t, t2)
+// What one pass over base row and diagonals finds, where all lengths are right.
+pub struct RowScan {
+    // All words of g, t and t2 are below the modulus.
+    pub words: bool,
+    // T and T' differ in every place.
+    pub apart: bool,
 }
 
-// Whether all words of g, t, t2 and of a message or block are below the modulus, where all lengths are right.
-pub fn all_words_ok(lengths: bool, g: &[u32], t: &[u32], t2: &[u32], m: &[u32]) -> bool
-    ensures { λ r. ⌜ r ≡ (lengths && (rowWords (now (g .entry)) (now (t .entry)) (now (t2 .entry)) && allBelow (now (m .entry)))) ⌝ }
+pub fn scan_row(lengths: bool, g: &[u32], t: &[u32], t2: &[u32]) -> RowScan
+    ensures { λ r. ⌜ RowScanned lengths (now (g .entry)) (now (t .entry)) (now (t2 .entry)) (r .words) (r .apart) ⌝ }
 {
-    if !words_ok(lengths, g, t, t2) {
+    if !lengths {
+        return RowScan {
+            words: false,
+            apart: false,
+        };
+    }
+    let row = scan::all_below(g);
+    let diagonals = scan::scan_pair(t, t2);
+    RowScan {
+        words: row & diagonals.below,
+        apart: diagonals.apart,
+    }
+}
+
+// Whether all words of a message or block are below the modulus too.
+pub fn all_words_ok(row: bool, m: &[u32]) -> bool
+    ensures { λ r. ⌜ r ≡ (row && allBelow (now (m .entry))) ⌝ }
+{
+    if !row {
         return false;
     }
     scan::all_below(m)
@@ -63,31 +78,13 @@ fn row_ok(words: bool, g: &[u32]) -> bool
     scan::none_zero(g)
 }
 
-fn diagonals_ok(row: bool, t: &[u32], t2: &[u32]) -> bool
-    ensures { λ r. ⌜ r ≡ (row && allDiffer (now (t .entry)) (now (t2 .entry))) ⌝ }
-{
-    if !row {
-        return false;
-    }
-    scan::all_differ(t, t2)
-}
-
-// The refusals 1 to 6, by a job's own tests of all its lengths and all its words. A later test is not run where an earlier one fails.
-pub fn judge(
-    depth: u32,
-    rate: u32,
-    g: &[u32],
-    t: &[u32],
-    t2: &[u32],
-    lengths: bool,
-    words: bool,
-) -> Answer
-    ensures { λ r. ⌜ outcome r ≡ judgeRow depth rate (now (g .entry)) (now (t .entry)) (now (t2 .entry)) lengths words ⌝ }
+// The refusals 1 to 6, by a job's own tests of all its lengths and all its words, and by whether the diagonals differ.
+pub fn judge(depth: u32, rate: u32, g: &[u32], lengths: bool, words: bool, apart: bool) -> Answer
+    ensures { λ r. ⌜ outcome r ≡ judgeFlags depth rate (now (g .entry)) lengths words apart ⌝ }
 {
     let shallow = job::depth_ok(depth);
     let fair = job::rate_ok(rate);
     let row = row_ok(words, g);
-    let apart = diagonals_ok(row, t, t2);
     let six = job::require(apart, Refusal::Diagonals, Answer::Done);
     let five = job::require(row, Refusal::BaseRow, six);
     let four = job::require(words, Refusal::Word, five);

@@ -1,15 +1,17 @@
 -- What holds of words where the tests of them hold. Assumes nothing.
-use mathlib.Core.Path.{_≡_, refl}
-use mathlib.Core.Bool.{Bool, true, false, not, Bool·beq}
-use mathlib.Core.List.{List}
-use Prim.Native.Nat.{ℕ, _<_}
+use mathlib.Core.Path.{_≡_, refl, sym, ap, ap₂, _∙_}
+use mathlib.Core.Bool.{Bool, true, false, not, _&&_}
+use mathlib.Core.List.{List, [], _∷_}
+use Prim.Native.Nat.{ℕ, zero, suc, _-_, _<_, _≤_}
+use native.Mathlib.Omega.{arith}
 use lib.Dec.{ltb, eqb}
-use lib.ListN.{length, getD}
+use lib.ListN.{length, getD, take, drop, length-drop}
+use lib.Seq.{take-all}
 use borrow.Author.Tests.{lt-ltb, ltb-true, not-true, eqb-false}
-use Rattle.algebra.specs.Tests.{all₂, all-at, all-of, all₂-at}
+use Rattle.algebra.specs.Tests.{all, all₂, all-at, all-of, all₂-at, all₂-end}
 use Rattle.algebra.specs.WordLists.{Low}
 use Rattle.residue.specs.Residues.{P}
-use Rattle.residue.specs.Scans.{allBelow, noneZero, allDiffer, allSame}
+use Rattle.residue.specs.Scans.{allBelow, noneZero, allDiffer, PlacesScanned, PairScanned}
 
 pub all-below : (ws : List ℕ) → allBelow ws ≡ true → Low P ws
 all-below ws e = record { low = λ k h. ltb-true _ _ (all-at (λ x. ltb x P) ws 0 e k h) }
@@ -23,17 +25,32 @@ all-differ ws vs e k h l = eqb-false _ _ (not-true _ (all₂-at (λ x y. not (eq
 pub below-all : (ws : List ℕ) → Low P ws → allBelow ws ≡ true
 below-all ws l = all-of (λ x. ltb x P) ws 0 (λ k h. lt-ltb (getD ws k 0) P (l .low k h))
 
--- equality as asked, in every place
-beq-false : (b : Bool) → Bool·beq b false ≡ not b
-beq-false true = refl
-beq-false false = refl
+-- both below, first in the places that two lists share and then in the rest of each
+and-false : (a : Bool) → (a && false) ≡ false
+and-false true = refl
+and-false false = refl
 
-beq-true : (b : Bool) → Bool·beq b true ≡ b
-beq-true true = refl
-beq-true false = refl
+pub both-below : (n : ℕ) (ws vs : List ℕ) → n ≤ length ws → n ≤ length vs
+    → (all₂ (λ x y. ltb x P && ltb y P) (take n ws) (take n vs) && (allBelow (drop n ws) && allBelow (drop n vs))) ≡ (allBelow ws && allBelow vs)
+unfolding all all₂
+both-below zero ws vs h k = refl
+both-below (suc n) [] vs h k = absurd (omega arith)
+both-below (suc n) (x ∷ ws) [] h k = absurd (omega arith)
+both-below (suc n) (x ∷ ws) (y ∷ vs) h k = go (ltb x P) (ltb y P) _ _ (allBelow ws) (allBelow vs) (both-below n ws vs (omega arith) (omega arith))
+  where
+    go : (a b c r u v : Bool) → (c && r) ≡ (u && v) → (((a && b) && c) && r) ≡ ((a && u) && (b && v))
+    go true true c r u v e = e
+    go true false c r u v e = sym (and-false u)
+    go false b c r u v e = refl
 
-pub every-differs : (ws vs : List ℕ) → all₂ (λ x y. Bool·beq (eqb x y) false) ws vs ≡ allDiffer ws vs
-every-differs ws vs = λ i. all₂ (λ x y. beq-false (eqb x y) i) ws vs
-
-pub every-same : (ws vs : List ℕ) → all₂ (λ x y. Bool·beq (eqb x y) true) ws vs ≡ allSame ws vs
-every-same ws vs = λ i. all₂ (λ x y. beq-true (eqb x y) i) ws vs
+-- a pass over the places that two lists share, and over the rest of each
+pub pair-scanned : (n : ℕ) (ws vs : List ℕ) → n ≤ length ws → n ≤ length vs → (n < length ws → n < length vs → ⊥) → {b a f s : Bool} → PlacesScanned (take n ws) (take n vs) b a
+    → f ≡ allBelow (take (length ws - n) (drop n ws)) → s ≡ allBelow (take (length vs - n) (drop n vs)) → PairScanned ws vs (b && (f && s)) a
+pair-scanned n ws vs h k none 𝓢 p q =
+    let rest : (l : List ℕ) → take (length l - n) (drop n l) ≡ drop n l = λ l. take-all (length l - n) (drop n l) (omega (arith, length-drop n l)) in
+    record {
+      below-is =
+          ap₂ _&&_ (𝓢 .below-is) (ap₂ _&&_ (p ∙ ap (λ l. all (λ x. ltb x P) l) (rest ws)) (q ∙ ap (λ l. all (λ x. ltb x P) l) (rest vs)))
+          ∙ both-below n ws vs h k;
+      apart-is = all₂-end (λ x y. not (eqb x y)) n ws vs none (𝓢 .apart-is);
+    }

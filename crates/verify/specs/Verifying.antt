@@ -25,8 +25,12 @@ unfoldable pub openedLengths : ℕ → ℕ → ℕ → ℕ → ℕ → ℕ → �
 openedLengths d c g t t' w z r o =
     rowLengths d c g t t' && (eqb w (blockSize c d) && (eqb z d && (eqb r d && eqb o (openingSize c 0 d))))
 
+-- of the words of block, z, y, r and opening; and of all
+abbrev pub claimWords : (w z : List ℕ) (y : ℕ) (r o : List ℕ) → Bool
+claimWords w z y r o = allBelow w && (allBelow z && (ltb y P && (allBelow r && allBelow o)))
+
 unfoldable pub openedWords : (g t t' w z : List ℕ) (y : ℕ) (r o : List ℕ) → Bool
-openedWords g t t' w z y r o = rowWords g t t' && (allBelow w && (allBelow z && (ltb y P && (allBelow r && allBelow o))))
+openedWords g t t' w z y r o = rowWords g t t' && claimWords w z y r o
 
 -- at depth 0 no query; above, from 1 to the most, each a place of the block below the top one
 unfoldable pub queriesOk : ℕ → ℕ → List ℕ → Bool

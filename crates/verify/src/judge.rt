@@ -3,7 +3,7 @@ ghost use mathlib.Core.Path.{_≡_};
 ghost use mathlib.Core.Bool.{_&&_};
 ghost use Rattle.job.specs.Outcome.{outcome};
 ghost use Rattle.parameters.specs.Parameters.{inLimits};
-ghost use Rattle.verify.specs.Verifying.{openedLengths, openedWords, judgeVerifying};
+ghost use Rattle.verify.specs.Verifying.{openedLengths, claimWords, judgeVerifying};
 use crate::queries;
 use job::Answer;
 use job::Refusal;
@@ -39,21 +39,11 @@ fn lengths_ok(
     opening == layout::opening_len(depth, rate)
 }
 
-// Whether all words are below the modulus, where all lengths are right.
-fn words_ok(
-    lengths: bool,
-    g: &[u32],
-    t: &[u32],
-    t2: &[u32],
-    block: &[u32],
-    z: &[u32],
-    y: u32,
-    r: &[u32],
-    opening: &[u32],
-) -> bool
-    ensures { λ b. ⌜ b ≡ (lengths && openedWords (now (g .entry)) (now (t .entry)) (now (t2 .entry)) (now (block .entry)) (now (z .entry)) y (now (r .entry)) (now (opening .entry))) ⌝ }
+// Whether all words are below the modulus, where those of row and diagonals are.
+fn words_ok(row: bool, block: &[u32], z: &[u32], y: u32, r: &[u32], opening: &[u32]) -> bool
+    ensures { λ b. ⌜ b ≡ (row && claimWords (now (block .entry)) (now (z .entry)) y (now (r .entry)) (now (opening .entry))) ⌝ }
 {
-    if !parameters::words_ok(lengths, g, t, t2) {
+    if !row {
         return false;
     }
     if !scan::all_below(block) {
@@ -97,9 +87,10 @@ pub fn judge(
         r.len(),
         opening.len(),
     );
-    let words = words_ok(lengths, g, t, t2, block, z, y, r, opening);
-    let row = parameters::judge(depth, rate, g, t, t2, lengths, words);
+    let row = parameters::scan_row(lengths, g, t, t2);
+    let words = words_ok(row.words, block, z, y, r, opening);
+    let six = parameters::judge(depth, rate, g, lengths, words, row.apart);
     let asked = queries::queries_ok(depth, rate, queries);
     let seven = job::require(asked, Refusal::Queries, Answer::Done);
-    job::then(row, seven)
+    job::then(six, seven)
 }

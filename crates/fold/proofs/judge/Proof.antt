@@ -12,11 +12,11 @@ rate-ok-requires c κs = search needs
 lengths-ok-requires : tie.Need-lengths-ok-requires
 lengths-ok-requires c κs = search needs
 
+scan-diagonals-requires : tie.Need-scan-diagonals-requires
+scan-diagonals-requires c κs = search needs
+
 words-ok-requires : tie.Need-words-ok-requires
 words-ok-requires c κs = search needs
-
-diagonals-ok-requires : tie.Need-diagonals-ok-requires
-diagonals-ok-requires c κs = search needs
 
 require-requires : tie.Need-require-requires
 require-requires c κs = search needs
@@ -35,12 +35,10 @@ require-requires-5 c κs = search needs
 
 returns : tie.Need-returns
 returns c =
-    let four = c .before .before .before in
-    let flags = four .before .before in
     let a = c .before .before .before .before .before .before .before .before .before .before .before .before .before .args in
     judged (a .level) (a .rate) (a .t .now) (a .t2 .now) (a .block .now) (a .challenge) (a .out)
-    (flags .before .before .before .before .level-ok .ensures) (flags .before .before .before .rate-ok .ensures) (flags .before .before .lengths-ok .ensures) (flags .before .words-ok .ensures) (flags .diagonals-ok .ensures)
-    (four .before .require .ensures) (four .require2 .ensures) (c .before .before .require3 .ensures) (c .before .require4 .ensures) (c .require5 .ensures)
+    (c .before .before .before .before .before .before .before .before .before .level-ok .ensures) (c .before .before .before .before .before .before .before .before .rate-ok .ensures) (c .before .before .before .before .before .before .before .lengths-ok .ensures) (c .before .before .before .before .before .before .scan-diagonals .ensures .0) (c .before .before .before .before .before .before .scan-diagonals .ensures .1) (c .before .before .before .before .before .words-ok .ensures)
+    (c .before .before .before .before .require .ensures) (c .before .before .before .require2 .ensures) (c .before .before .require3 .ensures) (c .before .require4 .ensures) (c .require5 .ensures)
 
 pub judge-spec : {M : Type 1} → statement M
 judge-spec =
@@ -49,8 +47,8 @@ judge-spec =
     level-ok-requires
     rate-ok-requires
     lengths-ok-requires
+    scan-diagonals-requires
     words-ok-requires
-    diagonals-ok-requires
     require-requires
     require-requires-2
     require-requires-3

@@ -12,9 +12,6 @@ rate-ok-requires c κs = search needs
 row-ok-requires : tie.Need-row-ok-requires
 row-ok-requires c κs = search needs
 
-diagonals-ok-requires : tie.Need-diagonals-ok-requires
-diagonals-ok-requires c κs = search needs
-
 require-requires : tie.Need-require-requires
 require-requires c κs = search needs
 
@@ -35,13 +32,10 @@ require-requires-6 c κs = search needs
 
 returns : tie.Need-returns
 returns c =
-    let four = c .before .before .before in
-    let six = four .before .before in
-    let flags = six .before .before .before in
-    let a = flags .before .before .before .before .before .args in
-    judged (a .depth) (a .rate) (a .g .now) (a .t .now) (a .t2 .now) (a .lengths) (a .words)
-    (flags .before .depth-ok .ensures) (flags .rate-ok .ensures) (six .before .before .row-ok .ensures) (six .before .diagonals-ok .ensures)
-    (six .require .ensures) (four .before .require2 .ensures) (four .require3 .ensures) (c .before .before .require4 .ensures) (c .before .require5 .ensures) (c .require6 .ensures)
+    let a = c .before .before .before .before .before .before .before .before .before .before .args in
+    judged (a .depth) (a .rate) (a .g .now) (a .lengths) (a .words) (a .apart)
+    (c .before .before .before .before .before .before .before .before .depth-ok .ensures) (c .before .before .before .before .before .before .before .rate-ok .ensures) (c .before .before .before .before .before .before .row-ok .ensures)
+    (c .before .before .before .before .before .require .ensures) (c .before .before .before .before .require2 .ensures) (c .before .before .before .require3 .ensures) (c .before .before .require4 .ensures) (c .before .require5 .ensures) (c .require6 .ensures)
 
 pub judge-spec : {M : Type 1} → statement M
-judge-spec = tie.close (tie.spec depth-ok-requires rate-ok-requires row-ok-requires diagonals-ok-requires require-requires require-requires-2 require-requires-3 require-requires-4 require-requires-5 require-requires-6 returns)
+judge-spec = tie.close (tie.spec depth-ok-requires rate-ok-requires row-ok-requires require-requires require-requires-2 require-requires-3 require-requires-4 require-requires-5 require-requires-6 returns)

@@ -1,7 +1,5 @@
-use mathlib.Core.Bool.{_&&_}
 use lib.ListN.{length}
 use Rattle.residue.specs.Scans.{allBelow}
-use Rattle.parameters.specs.Parameters.{rowWords}
 use Rattle.parameters.specs.ParameterLaws.{judged-by}
 use Rattle.decode.specs.Decoding.{decodeLengths, judgeDecoding}
 use borrow.Author.Needs.{needs}
@@ -10,6 +8,9 @@ use Rattle.decode.proofs.decode.judge.Tie as tie
 
 lengths-ok-requires : tie.Need-lengths-ok-requires
 lengths-ok-requires c κs = search needs
+
+scan-row-requires : tie.Need-scan-row-requires
+scan-row-requires c κs = search needs
 
 all-words-ok-requires : tie.Need-all-words-ok-requires
 all-words-ok-requires c κs = search needs
@@ -20,11 +21,10 @@ judge-requires c κs = search needs
 returns : tie.Need-returns
 unfolding judgeDecoding
 returns c =
-    let a = c .before .before .before .before .before .before .before .args in
+    let a = c .before .before .before .before .before .before .before .before .args in
     judged-by (a .depth) (a .rate) (a .g .now) (a .t .now) (a .t2 .now)
     (decodeLengths (a .depth) (a .rate) (length (a .g .now)) (length (a .t .now)) (length (a .t2 .now)) (length (a .block .now)) (a .out) (a .work))
-    (rowWords (a .g .now) (a .t .now) (a .t2 .now) && allBelow (a .block .now))
-    (c .before .before .lengths-ok .ensures) (c .before .all-words-ok .ensures) (c .judge .ensures)
+    (allBelow (a .block .now)) (c .before .before .before .lengths-ok .ensures) (c .before .before .scan-row .ensures) (c .before .all-words-ok .ensures) (c .judge .ensures)
 
 pub judge-spec : {M : Type 1} → statement M
-judge-spec = tie.close (tie.spec lengths-ok-requires all-words-ok-requires judge-requires returns)
+judge-spec = tie.close (tie.spec lengths-ok-requires scan-row-requires all-words-ok-requires judge-requires returns)

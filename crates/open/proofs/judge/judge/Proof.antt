@@ -1,6 +1,4 @@
-use mathlib.Core.Bool.{_&&_}
 use lib.ListN.{length}
-use Rattle.parameters.specs.Parameters.{rowWords}
 use Rattle.parameters.specs.ParameterLaws.{judged-by}
 use Rattle.open.specs.Writing.{writeLengths, inputWords, judgeWriting}
 use borrow.Author.Needs.{needs}
@@ -10,6 +8,9 @@ use Rattle.open.proofs.judge.judge.Tie as tie
 lengths-ok-requires : tie.Need-lengths-ok-requires
 lengths-ok-requires c κs = search needs
 
+scan-row-requires : tie.Need-scan-row-requires
+scan-row-requires c κs = search needs
+
 words-ok-requires : tie.Need-words-ok-requires
 words-ok-requires c κs = search needs
 
@@ -18,11 +19,10 @@ judge-requires c κs = search needs
 
 returns : tie.Need-returns
 unfolding judgeWriting
-returns c = let a = c .before .before .before .before .before .before .before .before .before .args in
+returns c = let a = c .before .before .before .before .before .before .before .before .before .before .args in
     judged-by (a .depth) (a .rate) (a .g .now) (a .t .now) (a .t2 .now)
     (writeLengths (a .depth) (a .rate) (length (a .g .now)) (length (a .t .now)) (length (a .t2 .now)) (length (a .m .now)) (length (a .z .now)) (length (a .r .now)) (a .o) (a .s))
-    (rowWords (a .g .now) (a .t .now) (a .t2 .now) && inputWords (a .m .now) (a .z .now) (a .r .now))
-    (c .before .before .lengths-ok .ensures) (c .before .words-ok .ensures) (c .judge .ensures)
+    (inputWords (a .m .now) (a .z .now) (a .r .now)) (c .before .before .before .lengths-ok .ensures) (c .before .before .scan-row .ensures) (c .before .words-ok .ensures) (c .judge .ensures)
 
 pub judge-spec : {M : Type 1} → statement M
-judge-spec = tie.close (tie.spec lengths-ok-requires words-ok-requires judge-requires returns)
+judge-spec = tie.close (tie.spec lengths-ok-requires scan-row-requires words-ok-requires judge-requires returns)

@@ -1,72 +1,57 @@
-use mathlib.Core.Path.{sym, _∙_}
+use mathlib.Core.Path.{refl, sym, _∙_}
 use native.Mathlib.Omega.{arith}
 use borrow.Author.Tests.{lt-ltb, le-ltb}
-use Rattle.algebra.specs.Flags.{passes, fails, stops₂, goes₂}
+use Rattle.algebra.specs.Flags.{passes, fails, stops, goes}
 use Rattle.residue.specs.Residues.{P}
-use Rattle.parameters.specs.Parameters.{rowWords}
-use Rattle.verify.specs.Verifying.{openedWords}
 use borrow.Author.Needs.{needs}
 use Rattle.verify.proofs.judge.words_ok.Statement.{statement}
 use Rattle.verify.proofs.judge.words_ok.Tie as tie
 
-words-ok-requires : tie.Need-words-ok-requires
-words-ok-requires c κs = search needs
-
 returns : tie.Need-returns
-unfolding openedWords
-returns c = let a = c .before .before .before .before .before .before .before .before .before .args in stops₂ (a .lengths) (rowWords (a .g .now) (a .t .now) (a .t2 .now)) _ (c .before .words-ok .ensures) (c .if1 .taken)
+returns c = stops {a = c .before .before .before .before .before .args .row} _ refl (c .if1 .taken)
 
 all-below-requires : tie.Need-all-below-requires
 all-below-requires c κs = search needs
 
 returns-2 : tie.Need-returns-2
-unfolding openedWords
-returns-2 c =
-    let a = c .before .before .before .before .before .before .before .before .before .before .before .args in
-    goes₂ (a .lengths) (rowWords (a .g .now) (a .t .now) (a .t2 .now)) (c .before .before .before .words-ok .ensures) (c .before .before .if1 .left) (sym (rw (fails (c .before .all-below .ensures) (c .if2 .taken))))
+returns-2 c = goes {a = c .before .before .before .before .before .before .before .args .row} refl (c .before .before .if1 .left) (sym (rw (fails (c .before .all-below .ensures) (c .if2 .taken))))
 
 all-below-requires-2 : tie.Need-all-below-requires-2
 all-below-requires-2 c κs = search needs
 
 returns-3 : tie.Need-returns-3
-unfolding openedWords
 returns-3 c =
-    let a = c .before .before .before .before .before .before .before .before .before .before .before .before .before .args in
-    goes₂ (a .lengths) (rowWords (a .g .now) (a .t .now) (a .t2 .now)) (c .before .before .before .before .before .words-ok .ensures) (c .before .before .before .before .if1 .left)
+    goes {a = c .before .before .before .before .before .before .before .before .before .args .row} refl (c .before .before .before .before .if1 .left)
     (sym (rw (passes (c .before .before .before .all-below .ensures) (c .before .before .if2 .left), fails (c .before .all-below2 .ensures) (c .if3 .taken))))
 
 returns-4 : tie.Need-returns-4
-unfolding openedWords
 returns-4 c =
-    let a = c .before .before .before .before .before .before .before .before .before .before .before .before .before .before .args in
-    goes₂ (a .lengths) (rowWords (a .g .now) (a .t .now) (a .t2 .now)) (c .before .before .before .before .before .before .words-ok .ensures) (c .before .before .before .before .before .if1 .left)
+    let a = c .before .before .before .before .before .before .before .before .before .before .args in
+    goes {a = a .row} refl (c .before .before .before .before .before .if1 .left)
     (sym (rw (passes (c .before .before .before .before .all-below .ensures) (c .before .before .before .if2 .left), passes (c .before .before .all-below2 .ensures) (c .before .if3 .left), le-ltb (a .y) P (omega arith))))
 
 all-below-requires-3 : tie.Need-all-below-requires-3
 all-below-requires-3 c κs = search needs
 
 returns-5 : tie.Need-returns-5
-unfolding openedWords
 returns-5 c =
-    let a = c .before .before .before .before .before .before .before .before .before .before .before .before .before .before .before .before .args in
-    goes₂ (a .lengths) (rowWords (a .g .now) (a .t .now) (a .t2 .now)) (c .before .before .before .before .before .before .before .before .words-ok .ensures) (c .before .before .before .before .before .before .before .if1 .left)
+    let a = c .before .before .before .before .before .before .before .before .before .before .before .before .args in
+    goes {a = a .row} refl (c .before .before .before .before .before .before .before .if1 .left)
     (sym (rw (passes (c .before .before .before .before .before .before .all-below .ensures) (c .before .before .before .before .before .if2 .left), passes (c .before .before .before .before .all-below2 .ensures) (c .before .before .before .if3 .left), lt-ltb (a .y) P (omega arith), fails (c .before .all-below3 .ensures) (c .if5 .taken))))
 
 all-below-requires-4 : tie.Need-all-below-requires-4
 all-below-requires-4 c κs = search needs
 
 returns-6 : tie.Need-returns-6
-unfolding openedWords
 returns-6 c =
-    let a = c .before .before .before .before .before .before .before .before .before .before .before .before .before .before .before .before .before .args in
-    goes₂ (a .lengths) (rowWords (a .g .now) (a .t .now) (a .t2 .now)) (c .before .before .before .before .before .before .before .before .before .words-ok .ensures) (c .before .before .before .before .before .before .before .before .if1 .left)
+    let a = c .before .before .before .before .before .before .before .before .before .before .before .before .before .args in
+    goes {a = a .row} refl (c .before .before .before .before .before .before .before .before .if1 .left)
     (c .all-below4 .ensures ∙ sym (rw (passes (c .before .before .before .before .before .before .before .all-below .ensures) (c .before .before .before .before .before .before .if2 .left), passes (c .before .before .before .before .before .all-below2 .ensures) (c .before .before .before .before .if3 .left), lt-ltb (a .y) P (omega arith), passes (c .before .before .all-below3 .ensures) (c .before .if5 .left))))
 
 pub words-ok-spec : {M : Type 1} → statement M
 words-ok-spec =
     tie.close
     (tie.spec
-    words-ok-requires
     returns
     all-below-requires
     returns-2

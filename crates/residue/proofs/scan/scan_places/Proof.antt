@@ -1,0 +1,78 @@
+use mathlib.Core.Path.{_≡_, refl}
+use mathlib.Core.Bool.{not, _&&_}
+use Prim.Native.Nat.{_-_, _≤_}
+use native.Mathlib.Omega.{arith}
+use borrow.Author.Needs.{needs}
+use lib.Dec.{ltb, eqb}
+use lib.ListN.{take}
+use Rattle.algebra.specs.Tests.{all₂-none, all₂-turn}
+use Rattle.residue.specs.Residues.{P}
+use Rattle.residue.specs.Scans.{PlacesScanned}
+use Rattle.residue.proofs.scan.scan_places.Statement.{statement}
+use Rattle.residue.proofs.scan.scan_places.Tie as tie
+
+abbrev Inv-loop : tie.InvT-loop
+Inv-loop n s t below₀ apart₀ j₀ below apart j = (j ≤ n) × PlacesScanned (take j s) (take j t) below apart
+
+abbrev μ-loop : tie.MeasureT-loop
+μ-loop n s t below₀ apart₀ j₀ below apart j = n - j
+
+loop-holds : tie.Need-loop-holds Inv-loop μ-loop
+loop-holds c = let a = c .before .before .args in (omega arith, record { below-is = all₂-none (λ x y. ltb x P && ltb y P) (a .s .now) (a .t .now); apart-is = all₂-none (λ x y. not (eqb x y)) (a .s .now) (a .t .now) })
+
+mul-x : tie.Need-mul-x Inv-loop μ-loop
+mul-x c = search needs
+
+shared-slice-read-x : tie.Need-shared-slice-read-x Inv-loop μ-loop
+shared-slice-read-x c = search needs
+
+mul-y : tie.Need-mul-y Inv-loop μ-loop
+mul-y c = search needs
+
+shared-slice-read-y : tie.Need-shared-slice-read-y Inv-loop μ-loop
+shared-slice-read-y c = search needs
+
+both-below-requires : tie.Need-both-below-requires Inv-loop μ-loop
+both-below-requires c κs = search needs
+
+add-j : tie.Need-add-j Inv-loop μ-loop
+add-j c = search needs
+
+loop-less : tie.Need-loop-less Inv-loop μ-loop
+loop-less c = search needs
+
+loop-again : tie.Need-loop-again Inv-loop μ-loop
+loop-again c =
+    let a = c .before .before .before .before .before .before .before .args in
+    let l = c .before .before .before .before .loop in
+    let scanned = l .inv .1 in (
+      omega arith,
+      record {
+        below-is = all₂-turn (λ x y. ltb x P && ltb y P) (l .j) (a .s .now) (a .t .now) 0 (omega arith) (omega arith) (scanned .below-is) (c .both-below .ensures);
+        apart-is = all₂-turn (λ x y. not (eqb x y)) (l .j) (a .s .now) (a .t .now) 0 (omega arith) (omega arith) (scanned .apart-is) refl;
+      },
+    )
+
+returns : tie.Need-returns Inv-loop μ-loop
+returns c =
+    let l = c .before .loop in
+    let a = c .before .before .before .before .args in
+    let done : l .j ≡ a .n = omega arith in
+    rw done at (l .inv .1)
+
+pub scan-places-spec : {M : Type 1} → statement M
+scan-places-spec =
+    tie.close
+    (tie.spec
+    Inv-loop
+    μ-loop
+    loop-holds
+    mul-x
+    shared-slice-read-x
+    mul-y
+    shared-slice-read-y
+    both-below-requires
+    add-j
+    loop-less
+    loop-again
+    returns)
