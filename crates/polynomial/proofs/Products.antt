@@ -7,7 +7,7 @@ use native.Mathlib.Nat.{two-pow-succ, eq-or-lt-of-le}
 use native.Mathlib.Numerals.{add-one}
 use native.Mathlib.Omega.{arith}
 use lib.Dec.{lit<}
-use lib.ListN.{length, getD, set, replicate, length-set, length-replicate, getD-replicate}
+use lib.ListN.{length, getD, set, length-set}
 use lib.Pow.{pow-mono}
 use lib.Seq.{getD-set-same, getD-set-other}
 use borrow.Author.Count.{below-more}
@@ -50,13 +50,15 @@ pub record Grown (z : List ℕ) (i size : ℕ) (w : List ℕ) : Type 0 where
   pub long : length w ≡ 64
   pub product : (b : ℕ) → b < size → getD w b 0 ≡ word (monomial K b (elements 𝔽₁ z))
 
-pub grown-none : (z : List ℕ) → Grown z 0 1 (replicate 64 1)
-grown-none z = record { size-is = refl; long = refl; product = none }
+pub grown-none : (z w : List ℕ) → length w ≡ 64 → Grown z 0 1 (set w 0 1)
+grown-none z w e = record { size-is = refl; long = length-set w 0 1 ∙ e; product = none }
   where
-    none : (b : ℕ) → b < 1 → getD (replicate 64 1) b 0 ≡ word (monomial K b (elements 𝔽₁ z))
+    none : (b : ℕ) → b < 1 → getD (set w 0 1) b 0 ≡ word (monomial K b (elements 𝔽₁ z))
     none b h =
-        getD-replicate 64 b 1 0 (omega arith) ∙ sym (𝔽₁ .words .val-el 1 (lit< tt))
-        ∙ ap word (𝔽₁ .words .el-one ∙ sym (monomial-none K (elements 𝔽₁ z)) ∙ ap (λ k. monomial K k (elements 𝔽₁ z)) (omega arith))
+        let q : 0 ≡ b = omega arith in
+        subst (λ k. getD (set w 0 1) k 0 ≡ word (monomial K k (elements 𝔽₁ z))) q
+        (getD-set-same w 0 1 0 (omega (arith, e)) ∙ sym (𝔽₁ .words .val-el 1 (lit< tt))
+        ∙ ap word (𝔽₁ .words .el-one ∙ sym (monomial-none K (elements 𝔽₁ z))))
 
 module _ (z : List ℕ) (i size : ℕ) (w : List ℕ) (p : Grown z i size w) (hi : i < 6) where
   pub room : size + size ≤ 64

@@ -26,7 +26,7 @@ pub enum Evaluation {
 
 // By the top variable: the value of the left half plus that variable times the value of the right half, down to the low variables. Of these w
 // has the products, so that the value is a sum of products.
-fn by_top(w: &[u32], m: &[u32], z: &[u32]) -> Residue
+fn by_top(w: &[u32; 64], m: &[u32], z: &[u32]) -> Residue
     requires { ⌜ EvaluateInput (now m) (now z) × Products (now w) (now z) ⌝ }
     ensures { λ v. ⌜ v .0 ≡ word (poly K (elements 𝔽₁ (now (m .entry))) (elements 𝔽₁ (now (z .entry)))) ⌝ }
 {
@@ -45,7 +45,8 @@ pub fn value(m: &[u32], z: &[u32]) -> Residue
     requires { ⌜ EvaluateInput (now m) (now z) ⌝ }
     ensures { λ v. ⌜ v .0 ≡ word (poly K (elements 𝔽₁ (now (m .entry))) (elements 𝔽₁ (now (z .entry)))) ⌝ }
 {
-    let w = monomials::of_low(z);
+    let mut w = [0u32; 64];
+    monomials::fill(&mut w, z);
     by_top(&w, m, z)
 }
 

@@ -1,4 +1,6 @@
 // The products of the low variables, by the bits of their numbers.
+ghost use mathlib.Core.Path.{_≡_};
+ghost use lib.ListN.{length};
 ghost use Rattle.algebra.specs.WordLists.{Low};
 ghost use Rattle.residue.specs.Residues.{P};
 ghost use Rattle.polynomial.specs.Monomials.{Products, Extensible, Extended};
@@ -20,18 +22,17 @@ fn extend(w: &mut [u32], size: usize, x: u32)
     }
 }
 
-pub fn of_low(z: &[u32]) -> [u32; 64]
-    requires { ⌜ Low P (now z) ⌝ }
-    ensures { λ w. ⌜ Products w (now (z .entry)) ⌝ }
+pub fn fill(w: &mut [u32], z: &[u32])
+    requires { ⌜ (length (now w) ≡ 64) × Low P (now z) ⌝ }
+    ensures { λ _. ⌜ Products (now (w .exit)) (now (z .entry)) ⌝ }
 {
     let k = scan::shorter(z.len(), LOW);
-    let mut w = [1u32; 64];
+    w[0] = 1;
     let mut size = 1;
     let mut i = 0;
     while i < k {
-        extend(&mut w, size, z[i]);
+        extend(w, size, z[i]);
         size += size;
         i += 1;
     }
-    w
 }

@@ -53,7 +53,7 @@ by-top-slice-aggregate-by-top-2 t c = simp length-take (omega arith)
 
 by-top-by-top-requires : (t : ℕ) → by-top-lts.Need-by-top-requires (rs t) (by-top-at t) by-top.Post
 by-top-by-top-requires t c κs =
-    let s = c .before .before .before .before .before .before in
+    let s = c .before .before .before .before .before in
     let a = s .args in (
       omega (arith, length-lower (a .m .now) (a .z .now) (s .pre .1 .0) (omega arith)),
       (left-input (a .m .now) (a .z .now) (s .pre .1 .0) (omega arith), products-lower (a .w .now) (a .z .now) (omega arith) (s .pre .1 .1)),
@@ -76,7 +76,7 @@ by-top-slice-aggregate-by-top-3 t c = simp length-take (omega arith)
 
 by-top-by-top-requires-2 : (t : ℕ) → by-top-lts.Need-by-top-requires-2 (rs t) (by-top-at t) by-top.Post
 by-top-by-top-requires-2 t c κs =
-    let s = c .before .before .before .before .before .before .before .before .before in
+    let s = c .before .before .before .before .before .before .before .before in
     let a = s .args in (
       omega (arith, length-lower (a .m .now) (a .z .now) (s .pre .1 .0) (omega arith)),
       (right-input (a .m .now) (a .z .now) (s .pre .1 .0) (omega arith), products-lower (a .w .now) (a .z .now) (omega arith) (s .pre .1 .1)),
@@ -89,18 +89,18 @@ by-top-shared-slice-read-new : (t : ℕ) → by-top-lts.Need-shared-slice-read-n
 by-top-shared-slice-read-new t c = omega arith
 
 by-top-new-requires : (t : ℕ) → by-top-lts.Need-new-requires (rs t) (by-top-at t) by-top.Post
-by-top-new-requires t c κs = c .before .before .before .before .before .before .before .before .before .before .before .pre .1 .0 .point .low _ (omega arith)
+by-top-new-requires t c κs = c .before .before .before .before .before .before .before .before .before .before .pre .1 .0 .point .low _ (omega arith)
 
 by-top-plus-product-requires : (t : ℕ) → by-top-lts.Need-plus-product-requires (rs t) (by-top-at t) by-top.Post
 by-top-plus-product-requires t c κs = (
   is-low _ (c .before .before .before .before .before .by-top .ensures),
-  rw (c .new .ensures) (c .before .before .before .before .before .before .before .before .before .before .before .before .pre .1 .0 .point .low _ (omega arith)),
+  rw (c .new .ensures) (c .before .before .before .before .before .before .before .before .before .before .before .pre .1 .0 .point .low _ (omega arith)),
   is-low _ (c .before .before .by-top2 .ensures),
 )
 
 by-top-returns-2 : (t : ℕ) → by-top-lts.Need-returns-2 (rs t) (by-top-at t) by-top.Post
 by-top-returns-2 t c =
-    let s = c .before .before .before .before .before .before .before .before .before .before .before .before .before in
+    let s = c .before .before .before .before .before .before .before .before .before .before .before .before in
     let a = s .args in
     joined (a .m .now) (a .z .now) (s .pre .1 .0) (omega arith) _ _ _ (c .before .before .before .before .before .before .by-top .ensures) (c .before .before .before .by-top2 .ensures)
     (c .plus-product .ensures ∙ ap (λ x. word (el (c .before .before .before .before .before .before .by-top .result .0) ⊞ el x ⊠ el (c .before .before .before .by-top2 .result .0))) (c .before .new .ensures))
