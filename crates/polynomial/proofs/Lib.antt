@@ -1,3 +1,3 @@
 pub mod Values
 pub mod Factors
-pub mod Products
+pub mod LowMonomials

@@ -1,4 +1,4 @@
--- The value of a message by its halves, and by the products of the low variables. Assumes nothing.
+-- The value of a message by its halves, and by the monomials of the low variables. Assumes nothing.
 use mathlib.Core.Path.{_≡_, sym, ap, ap₂, _∙_, subst}
 use mathlib.Core.Bool.{_&&_}
 use mathlib.Core.List.{List, [], _∷_, _++_}
@@ -24,20 +24,20 @@ use Rattle.residue.specs.ScanLaws.{all-below}
 use Rattle.residue.specs.Sums.{Lent, inner}
 use Rattle.polynomial.specs.Evaluation.{EvaluateInput, evaluateLengths, judgeEvaluating}
 use Rattle.polynomial.specs.EvaluationLaws.{lower, half-is, length-lower, rest}
-use Rattle.polynomial.specs.Monomials.{Products}
+use Rattle.polynomial.specs.Monomials.{Monomials}
 use Rattle.polynomial.specs.MonomialLaws.{monomial-take}
 
 -- the top variable
 abbrev pub top : List ℕ → ℕ
 top z = getD z (length z - 1) 0
 
--- of the low variables only: there are words enough, and the sum of the products is the polynomial as it is defined
-module _ (w m z : List ℕ) (𝓔 : EvaluateInput m z) (𝓟 : Products w z) (hi : length z ≤ 6) where
+-- of low variables only: there are monomials enough, and the sum of products is the polynomial as it is defined
+module _ (w m z : List ℕ) (𝓔 : EvaluateInput m z) (𝓜 : Monomials w z) (hi : length z ≤ 6) where
   few : 2 ^ length z ≤ 64
   few = pow-mono {i = length z} {j = 6} hi
 
   pub lent : Lent m w
-  lent = record { long = omega (arith, few, 𝓔 .size, 𝓟 .size); few = omega (arith, few, 𝓔 .size) }
+  lent = record { long = omega (arith, few, 𝓔 .size, 𝓜 .size); few = omega (arith, few, 𝓔 .size) }
 
   pub summed : {v : ℕ} → v ≡ word (inner m w) → v ≡ word (poly K (elements 𝔽₁ m) (elements 𝔽₁ z))
   unfolding form
@@ -49,17 +49,17 @@ module _ (w m z : List ℕ) (𝓔 : EvaluateInput m z) (𝓟 : Products w z) (hi
           → el (getD m b 0) ⊠ el (getD w b 0) ≡ getD (elements 𝔽₁ m) b (K .𝟘) ⊠ monomial K b (elements 𝔽₁ z)
       term b h =
           let l : b < 2 ^ length z = subst (λ k. b < 2 ^ k) (length-elements 𝔽₁ z) h in
-          ap₂ _⊠_ (sym (getD-elements 𝔽₁ m b)) (stands _ (𝓟 .product b (omega (arith, few)) l))
+          ap₂ _⊠_ (sym (getD-elements 𝔽₁ m b)) (stands _ (𝓜 .product b (omega (arith, few)) l))
 
--- the products are those of the halves too
-pub products-lower : (w z : List ℕ) → 0 < length z → Products w z → Products w (lower z)
-products-lower w z lo 𝓟 = record { size = 𝓟 .size; product = at }
+-- the monomials are those of the halves too
+pub monomials-lower : (w z : List ℕ) → 0 < length z → Monomials w z → Monomials w (lower z)
+monomials-lower w z lo 𝓜 = record { size = 𝓜 .size; product = at }
   where
     at : (b : ℕ) → b < 64 → b < 2 ^ length (lower z) → getD w b 0 ≡ word (monomial K b (elements 𝔽₁ (lower z)))
     at b h l =
         let n : length (lower z) ≡ length z - 1 = length-take (length z - 1) z ∙ omega arith in
         let k : b < 2 ^ (length z - 1) = subst (λ j. b < 2 ^ j) n l in
-        𝓟 .product b h (omega (arith, k, pow-mono {i = length z - 1} {j = length z} (omega arith)))
+        𝓜 .product b h (omega (arith, k, pow-mono {i = length z - 1} {j = length z} (omega arith)))
         ∙ ap word (sym (ap (monomial K b) (elements-take 𝔽₁ (length z - 1) z)
         ∙ monomial-take K (length z - 1) b (elements 𝔽₁ z) (omega (arith, length-elements 𝔽₁ z)) k))
 

@@ -1,4 +1,4 @@
--- Words that are products of variables. Definitions only. Assumes nothing.
+-- Words that are monomials at a point. Definitions only. Assumes nothing.
 use mathlib.Core.Path.{_≡_}
 use mathlib.Core.List.{List}
 use Prim.Native.Nat.{ℕ, _+_, _^_, _<_, _≤_}
@@ -8,8 +8,8 @@ use Rattle.algebra.specs.WordLists.{elements}
 use Rattle.multilinear.specs.Polynomial.{monomial}
 use Rattle.residue.specs.Residues.{P, K, el, word, _⊠_}
 
--- word b is the product of those z_i whose bit in b is set, for each b of the six lowest variables, or of all where there are fewer
-pub record Products (w z : List ℕ) : Type 0 where
+-- word b is monomial b at z: for each b that has the six lowest variables only, or all b where there are fewer variables
+pub record Monomials (w z : List ℕ) : Type 0 where
   pub size : length w ≡ 64
   pub product : (b : ℕ) → b < 64 → b < 2 ^ length z → getD w b 0 ≡ word (monomial K b (elements 𝔽₁ z))
 

@@ -9,7 +9,7 @@ ghost use Rattle.multilinear.specs.Polynomial.{poly};
 ghost use Rattle.residue.specs.Residues.{K, word};
 ghost use Rattle.residue.specs.Scans.{allBelow};
 ghost use Rattle.polynomial.specs.Evaluation.{EvaluateInput, evaluateLengths, judgeEvaluating, evaluation, evaluationOutcome};
-ghost use Rattle.polynomial.specs.Monomials.{Products};
+ghost use Rattle.polynomial.specs.Monomials.{Monomials};
 use job::Answer;
 use job::Refusal;
 use residue::Residue;
@@ -24,10 +24,10 @@ pub enum Evaluation {
     Refused(Refusal),
 }
 
-// By the top variable: the value of the left half plus that variable times the value of the right half, down to the low variables. Of these w
-// has the products, so that the value is a sum of products.
+// By the top variable: the value of the left half plus that variable times the value of the right half. When only low variables are left, it is
+// the sum of coefficients times monomials, which w has.
 fn by_top(w: &[u32; 64], m: &[u32], z: &[u32]) -> Residue
-    requires { ⌜ EvaluateInput (now m) (now z) × Products (now w) (now z) ⌝ }
+    requires { ⌜ EvaluateInput (now m) (now z) × Monomials (now w) (now z) ⌝ }
     ensures { λ v. ⌜ v .0 ≡ word (poly K (elements 𝔽₁ (now (m .entry))) (elements 𝔽₁ (now (z .entry)))) ⌝ }
 {
     let d = z.len();
@@ -41,6 +41,7 @@ fn by_top(w: &[u32; 64], m: &[u32], z: &[u32]) -> Residue
     l.plus_product(Residue::new(z[top]), r)
 }
 
+// The monomials of the low variables are made once, for all parts of the message.
 pub fn value(m: &[u32], z: &[u32]) -> Residue
     requires { ⌜ EvaluateInput (now m) (now z) ⌝ }
     ensures { λ v. ⌜ v .0 ≡ word (poly K (elements 𝔽₁ (now (m .entry))) (elements 𝔽₁ (now (z .entry)))) ⌝ }

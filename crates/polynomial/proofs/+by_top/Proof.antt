@@ -5,7 +5,7 @@ use borrow.Author.Needs.{needs}
 use Rattle.residue.specs.Residues.{el, word, _⊞_, _⊠_}
 use Rattle.residue.specs.ResidueLaws.{is-low}
 use Rattle.polynomial.specs.EvaluationLaws.{length-lower, left-input, right-input}
-use Rattle.polynomial.proofs.Values.{lent, summed, products-lower, joined}
+use Rattle.polynomial.proofs.Values.{lent, summed, monomials-lower, joined}
 use Prim.Native.Nat.{ℕ, _<_}
 use borrow.Fn.Kinds.{In}
 use borrow.Fn.PlainCycle.{Measures, is, falls, and}
@@ -56,7 +56,7 @@ by-top-by-top-requires t c κs =
     let s = c .before .before .before .before .before in
     let a = s .args in (
       omega (arith, length-lower (a .m .now) (a .z .now) (s .pre .1 .0) (omega arith)),
-      (left-input (a .m .now) (a .z .now) (s .pre .1 .0) (omega arith), products-lower (a .w .now) (a .z .now) (omega arith) (s .pre .1 .1)),
+      (left-input (a .m .now) (a .z .now) (s .pre .1 .0) (omega arith), monomials-lower (a .w .now) (a .z .now) (omega arith) (s .pre .1 .1)),
     )
 
 by-top-mul-by-top : (t : ℕ) → by-top-lts.Need-mul-by-top (rs t) (by-top-at t) by-top.Post
@@ -79,7 +79,7 @@ by-top-by-top-requires-2 t c κs =
     let s = c .before .before .before .before .before .before .before .before in
     let a = s .args in (
       omega (arith, length-lower (a .m .now) (a .z .now) (s .pre .1 .0) (omega arith)),
-      (right-input (a .m .now) (a .z .now) (s .pre .1 .0) (omega arith), products-lower (a .w .now) (a .z .now) (omega arith) (s .pre .1 .1)),
+      (right-input (a .m .now) (a .z .now) (s .pre .1 .0) (omega arith), monomials-lower (a .w .now) (a .z .now) (omega arith) (s .pre .1 .1)),
     )
 
 by-top-mul-new : (t : ℕ) → by-top-lts.Need-mul-new (rs t) (by-top-at t) by-top.Post
@@ -93,9 +93,9 @@ by-top-new-requires t c κs = c .before .before .before .before .before .before 
 
 by-top-plus-product-requires : (t : ℕ) → by-top-lts.Need-plus-product-requires (rs t) (by-top-at t) by-top.Post
 by-top-plus-product-requires t c κs = (
-  is-low _ (c .before .before .before .before .before .by-top .ensures),
+  omega (arith, is-low _ (c .before .before .before .before .before .by-top .ensures)),
   rw (c .new .ensures) (c .before .before .before .before .before .before .before .before .before .before .before .pre .1 .0 .point .low _ (omega arith)),
-  is-low _ (c .before .before .by-top2 .ensures),
+  omega (arith, is-low _ (c .before .before .by-top2 .ensures)),
 )
 
 by-top-returns-2 : (t : ℕ) → by-top-lts.Need-returns-2 (rs t) (by-top-at t) by-top.Post

@@ -1,8 +1,7 @@
 use mathlib.Core.Path.{subst}
 use Prim.Native.Nat.{_-_, _≤_}
 use native.Mathlib.Omega.{arith}
-use borrow.Author.Needs.{needs}
-use Rattle.polynomial.proofs.Products.{Extending, extending-none, extending-turn, extending-end}
+use Rattle.polynomial.proofs.LowMonomials.{Extending, extending-none, extending-turn, extending-end}
 use Rattle.polynomial.proofs.monomials.extend.Statement.{statement}
 use Rattle.polynomial.proofs.monomials.extend.Tie as tie
 

@@ -1,7 +1,7 @@
 use Prim.Native.Nat.{_-_, _≤_}
 use native.Mathlib.Omega.{arith}
 use borrow.Author.Needs.{needs}
-use Rattle.polynomial.proofs.Products.{Grown, grown-none, room, extensible, grown-turn, grown-end}
+use Rattle.polynomial.proofs.LowMonomials.{Grown, grown-none, room, extensible, grown-turn, grown-end}
 use Rattle.polynomial.proofs.monomials.fill.Statement.{statement}
 use Rattle.polynomial.proofs.monomials.fill.Tie as tie
 
@@ -32,7 +32,7 @@ extend-requires : tie.Need-extend-requires Inv-loop μ-loop
 extend-requires c κs =
     let l = c .before .before .before .loop in
     let s = c .before .before .before .before .before .before .before in
-    extensible (s .args .z .now) (l .i) (l .size) (l .w) (l .inv .1) (omega arith) (omega arith) (s .pre .1)
+    extensible (s .args .z .now) (l .i) (l .size) (l .w) (l .inv .1) (omega arith) _ (s .pre .1 .low _ (omega arith))
 
 add-size : tie.Need-add-size Inv-loop μ-loop
 add-size c =

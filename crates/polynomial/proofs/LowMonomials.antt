@@ -13,14 +13,14 @@ use lib.Seq.{getD-set-same, getD-set-other}
 use borrow.Author.Count.{below-more}
 use Rattle.algebra.specs.Order.{lt-or-ge}
 use Rattle.algebra.specs.Words.{𝔽₁}
-use Rattle.algebra.specs.WordLists.{Low, elements, length-elements, getD-elements}
+use Rattle.algebra.specs.WordLists.{elements, length-elements, getD-elements}
 use Rattle.multilinear.specs.Polynomial.{monomial}
 use Rattle.residue.specs.Residues.{P, K, el, word, _⊠_}
 use Rattle.residue.specs.ResidueLaws.{is-low, stands}
-use Rattle.polynomial.specs.Monomials.{Products, Extensible, Extended}
+use Rattle.polynomial.specs.Monomials.{Monomials, Extensible, Extended}
 use Rattle.polynomial.specs.MonomialLaws.{monomial-none, monomial-set}
 
--- the first n of the products with x are there
+-- the first n of the words times x are there
 pub record Extending (n size x : ℕ) (old new : List ℕ) : Type 0 where
   pub long : length new ≡ length old
   pub kept : (b : ℕ) → b < size → getD new b 0 ≡ getD old b 0
@@ -44,7 +44,7 @@ extending-turn b size x v old new room h e p =
 pub extending-end : (size x : ℕ) (old new : List ℕ) → Extending size size x old new → Extended size x old new
 extending-end size x old new p = record { long = p .long; kept = p .kept; more = p .more }
 
--- the products of the first i variables are there
+-- the monomials of the first i variables are there
 pub record Grown (z : List ℕ) (i size : ℕ) (w : List ℕ) : Type 0 where
   pub size-is : size ≡ 2 ^ i
   pub long : length w ≡ 64
@@ -64,9 +64,8 @@ module _ (z : List ℕ) (i size : ℕ) (w : List ℕ) (p : Grown z i size w) (hi
   pub room : size + size ≤ 64
   room = omega (arith, p .size-is, two-pow-succ i, pow-mono {i = suc i} {j = 6} (omega arith))
 
-  pub extensible : i < length z → Low P z → Extensible size (getD z i 0) w
-  extensible h low =
-      record { room = omega (arith, room, p .long); words = λ b l. is-low _ (p .product b l); factor = low .low i h }
+  pub extensible : (x : ℕ) → x < P → Extensible size x w
+  extensible x l = record { room = omega (arith, room, p .long); words = λ b h. is-low _ (p .product b h); factor = l }
 
   pub grown-turn : i < length z → (new : List ℕ) → Extended size (getD z i 0) w new → Grown z (i + 1) (size + size) new
   grown-turn h new e =
@@ -91,7 +90,7 @@ module _ (z : List ℕ) (i size : ℕ) (w : List ℕ) (p : Grown z i size w) (hi
           subst (λ j. getD new j 0 ≡ word (monomial K j (elements 𝔽₁ z))) q (upper (b - size) (omega arith)))
           (lt-or-ge b size)
 
-pub grown-end : (z : List ℕ) (i size : ℕ) (w : List ℕ) → Grown z i size w → i ≤ 6 → ((i < length z) → (i < 6) → ⊥) → Products w z
+pub grown-end : (z : List ℕ) (i size : ℕ) (w : List ℕ) → Grown z i size w → i ≤ 6 → ((i < length z) → (i < 6) → ⊥) → Monomials w z
 grown-end z i size w p h o = record { size = p .long; product = at }
   where
     at : (b : ℕ) → b < 64 → b < 2 ^ length z → getD w b 0 ≡ word (monomial K b (elements 𝔽₁ z))
