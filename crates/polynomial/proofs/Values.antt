@@ -1,36 +1,67 @@
--- The value of a message by its halves, and of a message of one word. Assumes nothing.
-use mathlib.Core.Path.{_≡_, sym, ap, ap₂, _∙_}
+-- The value of a message by its halves, and by the monomials of the low variables. Assumes nothing.
+use mathlib.Core.Path.{_≡_, sym, ap, ap₂, _∙_, subst}
 use mathlib.Core.Bool.{_&&_}
 use mathlib.Core.List.{List, [], _∷_, _++_}
-use Prim.Native.Nat.{ℕ, suc, _-_, _/_, _^_, _<_}
+use Prim.Native.Nat.{ℕ, suc, _-_, _/_, _^_, _<_, _≤_}
 use native.Mathlib.Omega.{arith}
 use lib.Dec.{eqb}
-use lib.ListN.{length, take, drop, getD}
-use lib.Seq.{take-all, take-suc, getD-take, getD-drop}
+use lib.ListN.{length, take, drop, getD, length-take}
+use lib.Pow.{pow-mono}
+use lib.Seq.{take-all, take-suc}
 use borrow.Author.Tests.{eqb-true}
+use Rattle.algebra.specs.Sums.{sum, sum-ext}
 use Rattle.algebra.specs.Tests.{and-both}
 use Rattle.algebra.specs.Words.{𝔽₁}
 use Rattle.algebra.specs.WordLists.{elements, elements-take, elements-drop, elements-append, length-elements, getD-elements}
 use Rattle.job.specs.Outcome.{done}
 use Rattle.job.specs.OutcomeLaws.{require-done, held}
 use Rattle.job.specs.Limits.{depthOk}
-use Rattle.multilinear.specs.Polynomial.{poly, form-nil, poly-top}
+use Rattle.multilinear.specs.Polynomial.{monomial, form, poly, poly-top}
 use Rattle.residue.specs.Residues.{K, el, word, _⊞_, _⊠_}
+use Rattle.residue.specs.ResidueLaws.{stands}
 use Rattle.residue.specs.Scans.{allBelow}
 use Rattle.residue.specs.ScanLaws.{all-below}
+use Rattle.residue.specs.Sums.{Lent, inner}
 use Rattle.polynomial.specs.Evaluation.{EvaluateInput, evaluateLengths, judgeEvaluating}
-use Rattle.polynomial.specs.EvaluationLaws.{lower, half-is, length-lower, rest, left-input, right-input}
+use Rattle.polynomial.specs.EvaluationLaws.{lower, half-is, length-lower, rest}
+use Rattle.polynomial.specs.Monomials.{Monomials}
+use Rattle.polynomial.specs.MonomialLaws.{monomial-take}
 
 -- the top variable
 abbrev pub top : List ℕ → ℕ
 top z = getD z (length z - 1) 0
 
-pub one-word : (m z : List ℕ) → EvaluateInput m z → length z ≡ 0 → (0 < length m) × (getD m 0 0 ≡ word (poly K (elements 𝔽₁ m) (elements 𝔽₁ z)))
-unfolding elements
-one-word m [] 𝓔 e =
-    let long : 0 < length m = omega (arith, 𝓔 .size) in
-    (long, sym (ap word (form-nil K _ ∙ getD-elements 𝔽₁ m 0) ∙ 𝔽₁ .words .val-el (getD m 0 0) (𝓔 .message .low 0 long)))
-one-word m (x ∷ z) 𝓔 e = absurd (omega arith)
+-- of low variables only: there are monomials enough, and the sum of products is the polynomial as it is defined
+module _ (w m z : List ℕ) (𝓔 : EvaluateInput m z) (𝓜 : Monomials w z) (hi : length z ≤ 6) where
+  few : 2 ^ length z ≤ 64
+  few = pow-mono {i = length z} {j = 6} hi
+
+  pub lent : Lent m w
+  lent = record { long = omega (arith, few, 𝓔 .size, 𝓜 .size); few = omega (arith, few, 𝓔 .size) }
+
+  pub summed : {v : ℕ} → v ≡ word (inner m w) → v ≡ word (poly K (elements 𝔽₁ m) (elements 𝔽₁ z))
+  unfolding form
+  summed e =
+      let size : length m ≡ 2 ^ length (elements 𝔽₁ z) = 𝓔 .size ∙ ap (λ k. 2 ^ k) (sym (length-elements 𝔽₁ z)) in
+      e ∙ ap word (ap (λ n. sum K n (λ b. el (getD m b 0) ⊠ el (getD w b 0))) size ∙ sum-ext K (2 ^ length (elements 𝔽₁ z)) _ _ term)
+    where
+      term : (b : ℕ) → b < 2 ^ length (elements 𝔽₁ z)
+          → el (getD m b 0) ⊠ el (getD w b 0) ≡ getD (elements 𝔽₁ m) b (K .𝟘) ⊠ monomial K b (elements 𝔽₁ z)
+      term b h =
+          let l : b < 2 ^ length z = subst (λ k. b < 2 ^ k) (length-elements 𝔽₁ z) h in
+          ap₂ _⊠_ (sym (getD-elements 𝔽₁ m b)) (stands _ (𝓜 .product b (omega (arith, few)) l))
+
+-- the monomials are those of the halves too
+pub monomials-lower : (w z : List ℕ) → 0 < length z → Monomials w z → Monomials w (lower z)
+monomials-lower w z lo 𝓜 = record { size = 𝓜 .size; product = at }
+  where
+    at : (b : ℕ) → b < 64 → b < 2 ^ length (lower z) → getD w b 0 ≡ word (monomial K b (elements 𝔽₁ (lower z)))
+    at b h l =
+        let n : length (lower z) ≡ length z - 1 = length-take (length z - 1) z ∙ omega arith in
+        let k : b < 2 ^ (length z - 1) = subst (λ j. b < 2 ^ j) n l in
+        𝓜 .product b h (omega (arith, k, pow-mono {i = length z - 1} {j = length z} (omega arith)))
+        ∙ ap word (sym (ap (monomial K b) (elements-take 𝔽₁ (length z - 1) z)
+        ∙ monomial-take K (length z - 1) b (elements 𝔽₁ z) (omega (arith, length-elements 𝔽₁ z)) k))
 
 module _ (m z : List ℕ) (𝓔 : EvaluateInput m z) (lo : 0 < length z) where
   last : lower z ++ (top z ∷ []) ≡ z
@@ -51,22 +82,6 @@ module _ (m z : List ℕ) (𝓔 : EvaluateInput m z) (lo : 0 < length z) where
       let b : el r ≡ poly K (drop (2 ^ length y) (elements 𝔽₁ m)) y =
       ap el el-r ∙ 𝔽₁ .words .el-val _ ∙ ap (λ w. poly K w y) (ap (elements 𝔽₁) (rest m z 𝓔 lo) ∙ elements-drop 𝔽₁ (length m / 2) m ∙ ap (λ k. drop k (elements 𝔽₁ m)) size) in
       e ∙ ap word (ap₂ (λ s t. s ⊞ x ⊠ t) a b ∙ sym (poly-top K (elements 𝔽₁ m) y x) ∙ ap (poly K (elements 𝔽₁ m)) (sym (elements-append 𝔽₁ (lower z) (top z ∷ [])) ∙ ap (elements 𝔽₁) last))
-
-  -- two words are the values of the halves
-  pub pair-size : length z ≡ 1 → length m ≡ 2
-  pair-size e = 𝓔 .size ∙ ap (λ k. 2 ^ k) e
-
-  pub pair : length z ≡ 1 → (v : ℕ) → v ≡ word (el (getD m 0 0) ⊞ el (getD z 0 0) ⊠ el (getD m 1 0)) → v ≡ word (poly K (elements 𝔽₁ m) (elements 𝔽₁ z))
-  pair e v p =
-      let n = pair-size e in
-      let half : length m / 2 ≡ 1 = omega (arith, n) in
-      let none : length (lower z) ≡ 0 = length-lower m z 𝓔 lo ∙ omega arith in
-      let first : getD (take (length m / 2) m) 0 0 ≡ getD m 0 0 = getD-take (length m / 2) m 0 0 (omega (arith, half)) in
-      let second : getD (take (length m - length m / 2) (drop (length m / 2) m)) 0 0 ≡ getD m 1 0 =
-      ap (λ l. getD l 0 0) (rest m z 𝓔 lo) ∙ getD-drop (length m / 2) m 0 0 ∙ ap (λ k. getD m k 0) (omega (arith, half)) in
-      let last-is : top z ≡ getD z 0 0 = ap (λ k. getD z k 0) (omega arith) in
-      joined (getD m 0 0) (getD m 1 0) v (sym first ∙ one-word _ (lower z) (left-input m z 𝓔 lo) none .1) (sym second ∙ one-word _ (lower z) (right-input m z 𝓔 lo) none .1)
-      (p ∙ ap (λ x. word (el (getD m 0 0) ⊞ el x ⊠ el (getD m 1 0))) (sym last-is))
 
 -- the job's tests have passed
 pub evaluates : (d : ℕ) (m z : List ℕ) → judgeEvaluating d m z ≡ done tt → EvaluateInput m z

@@ -1,7 +1,6 @@
 // The value of the multilinear polynomial whose coefficients a message holds.
 ghost use mathlib.Core.Path.{_≡_};
 ghost use mathlib.Core.Bool.{_&&_};
-ghost use lib.ListN.{length};
 ghost use Rattle.algebra.specs.Words.{𝔽₁};
 ghost use Rattle.algebra.specs.WordLists.{elements};
 ghost use Rattle.job.specs.Outcome.{outcome};
@@ -10,59 +9,46 @@ ghost use Rattle.multilinear.specs.Polynomial.{poly};
 ghost use Rattle.residue.specs.Residues.{K, word};
 ghost use Rattle.residue.specs.Scans.{allBelow};
 ghost use Rattle.polynomial.specs.Evaluation.{EvaluateInput, evaluateLengths, judgeEvaluating, evaluation, evaluationOutcome};
+ghost use Rattle.polynomial.specs.Monomials.{Monomials};
 use job::Answer;
 use job::Refusal;
 use residue::Residue;
 use residue::scan;
+use residue::sums;
 
 pub mod eq;
+mod monomials;
 
 pub enum Evaluation {
     Value(u32),
     Refused(Refusal),
 }
 
-// Of two words and one variable: the first word plus the variable times the second.
-fn pair(m: &[u32], z: &[u32]) -> Residue
-    requires { ⌜ EvaluateInput (now m) (now z) × (length (now z) ≡ 1) ⌝ }
+// By the top variable: the value of the left half plus that variable times the value of the right half. When only low variables are left, it is
+// the sum of coefficients times monomials, which w has.
+fn by_top(w: &[u32; 64], m: &[u32], z: &[u32]) -> Residue
+    requires { ⌜ EvaluateInput (now m) (now z) × Monomials (now w) (now z) ⌝ }
     ensures { λ v. ⌜ v .0 ≡ word (poly K (elements 𝔽₁ (now (m .entry))) (elements 𝔽₁ (now (z .entry)))) ⌝ }
 {
-    Residue::new(m[0]).plus_product(Residue::new(z[0]), Residue::new(m[1]))
-}
-
-// Of four words and two variables: by the top one, from the values of both halves.
-fn four(m: &[u32], z: &[u32]) -> Residue
-    requires { ⌜ EvaluateInput (now m) (now z) × (length (now z) ≡ 2) ⌝ }
-    ensures { λ v. ⌜ v .0 ≡ word (poly K (elements 𝔽₁ (now (m .entry))) (elements 𝔽₁ (now (z .entry)))) ⌝ }
-{
-    let top = z.len() - 1;
+    let d = z.len();
+    if d <= monomials::LOW {
+        return sums::of_products(m, w);
+    }
+    let top = d - 1;
     let half = m.len() / 2;
-    let left = pair(&m[..half], &z[..top]);
-    let right = pair(&m[half..], &z[..top]);
-    left.plus_product(Residue::new(z[top]), right)
+    let l = by_top(w, &m[..half], &z[..top]);
+    let r = by_top(w, &m[half..], &z[..top]);
+    l.plus_product(Residue::new(z[top]), r)
 }
 
-// By the top variable: the value of the left half plus that variable times the value of the right half. Two words and four are cases of their
-// own: without them there would be four times as many calls.
+// The monomials of the low variables are made once, for all parts of the message.
 pub fn value(m: &[u32], z: &[u32]) -> Residue
     requires { ⌜ EvaluateInput (now m) (now z) ⌝ }
     ensures { λ v. ⌜ v .0 ≡ word (poly K (elements 𝔽₁ (now (m .entry))) (elements 𝔽₁ (now (z .entry)))) ⌝ }
 {
-    let d = z.len();
-    if d == 0 {
-        return Residue::new(m[0]);
-    }
-    if d == 1 {
-        return pair(m, z);
-    }
-    if d == 2 {
-        return four(m, z);
-    }
-    let top = d - 1;
-    let half = m.len() / 2;
-    let l = value(&m[..half], &z[..top]);
-    let r = value(&m[half..], &z[..top]);
-    l.plus_product(Residue::new(z[top]), r)
+    let mut w = [0u32; 64];
+    monomials::fill(&mut w, z);
+    by_top(&w, m, z)
 }
 
 // A depth that is not legal has no lengths.
