@@ -3,12 +3,13 @@ use mathlib.Core.Path.{_≡_, refl, sym, ap, ap₂, _∙_}
 use mathlib.Core.Bool.{Bool, true, false, _&&_, false≢true}
 use mathlib.Core.List.{List, [], _∷_, _++_}
 use Prim.Native.Nat.{ℕ, zero, suc, _+_, _*_, _/_, _%_, _<_}
-use native.Mathlib.Nat.{mul-comm, add-mul, suc-mul, mul-le-mul-right, div-add-mod', div-lt-iff-lt-mul, mod-lt}
+use native.Mathlib.Nat.{zero-add, one-mul, mul-comm, add-mul, suc-mul, mul-le-mul-right, div-add-mod', div-lt-iff-lt-mul, mod-lt}
 use native.Mathlib.Omega.{arith}
 use lib.ListN.{length, getD, List·getD-append}
-use lib.Seq.{getD-append-add}
+use lib.Seq.{getD-append-add, ext-getD}
 use Rattle.algebra.specs.Lists.{row, length-row, getD-row, row-ext, row-append, zip, getD-zip, zip-row}
 use Rattle.algebra.specs.Tests.{all₂, all₂-at}
+use Rattle.foldable.specs.Columns.{pick, length-pick, getD-pick}
 
 -- place a of block i lies within b blocks of c places
 pub place-within : (c b a i : ℕ) → a < c → i < b → a + i * c < c * b
@@ -31,9 +32,17 @@ module _ {A : Type 0} (d : A) where
       row-ext b _ _ (λ i l. let within = place-within c b a i h l in getD-zip f v w d d d (a + i * c) (omega arith) (omega arith))
       ∙ sym (zip-row f b (λ i. getD v (a + i * c) d) (λ i. getD w (a + i * c) d))
 
+  -- the first column, by its blocks
+  pub every-pick : (c b : ℕ) (w : List A) → 0 < c → length w ≡ c * b → pick c 1 b w ≡ every c 0 b w
+  every-pick c b w some e =
+      let n : length (pick c 1 b w) ≡ b = length-pick c 1 b w some e ∙ one-mul b in
+      ext-getD d (pick c 1 b w) (every c 0 b w) (n ∙ sym (length-row b _))
+      (λ i h. let below : i < b = omega arith in
+      getD-pick d c b w e some i below ∙ ap (λ p. getD w p d) (sym (zero-add (i * c))) ∙ sym (getD-row b (λ i. getD w (0 + i * c) d) i d below))
+
 -- a test of all places of two lists, column by column
 module _ {A : Type 0} (f : A → A → Bool) (d : A) where
-  all₂-of : (xs ys : List A) → ((k : ℕ) → k < length xs → k < length ys → f (getD xs k d) (getD ys k d) ≡ true) → all₂ f xs ys ≡ true
+  pub all₂-of : (xs ys : List A) → ((k : ℕ) → k < length xs → k < length ys → f (getD xs k d) (getD ys k d) ≡ true) → all₂ f xs ys ≡ true
   unfolding all₂
   all₂-of [] ys h = refl
   all₂-of (x ∷ xs) [] h = refl

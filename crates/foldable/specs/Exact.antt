@@ -1,7 +1,7 @@
 -- Decoding on columns that hold as many words as the message: every block is a codeword there, that of what it decodes to. Assumes nothing.
 use mathlib.Core.Path.{_≡_, refl, sym, ap, ap₂, _∙_}
 use mathlib.Core.List.{List, [], _∷_, _++_}
-use Prim.Native.Nat.{ℕ, zero, suc}
+use Prim.Native.Nat.{ℕ, zero, suc, _^_}
 use native.Mathlib.Omega.{arith}
 use lib.ListN.{length}
 use Rattle.algebra.specs.Ring.{Ring}
@@ -10,12 +10,14 @@ use Rattle.algebra.specs.Algebra.{algebra, quote, from₁}
 use Rattle.algebra.specs.Lists.{zip₄}
 use Rattle.algebra.specs.Vector.{Vectors, vectors}
 use Rattle.foldable.specs.Code.{Code, oneRow, size, dim, slope, line, encode, Legal}
-use Rattle.foldable.specs.Encode.{block-halves, below, encode-halves}
+use Rattle.foldable.specs.Encode.{block-halves, below, length-encode, encode-halves}
 use Rattle.foldable.specs.Level.{lines, slopes, length-level, lines-first, lines-second}
 use Rattle.foldable.specs.Fold.{level-block}
 use Rattle.foldable.specs.Unique.{encode-word}
 use Rattle.foldable.specs.Columns.{length-pick, column, restrict, legal-restrict, column-encode}
 use Rattle.foldable.specs.Decode.{undo, length-undo, decode, length-decode, Decoder, divide}
+use Rattle.foldable.specs.Every.{every-pick}
+use Rattle.foldable.specs.OneColumn.{oneColumn}
 
 module _ (F : Field) where
   infixl 66 _⊕_
@@ -52,6 +54,15 @@ module _ (F : Field) where
     decode-column d 𝓛 w e =
         column-encode F C k (𝓓 .few) d 𝓛 (decode F C k base d w) (length-decode F C k base 𝓓 d 𝓛 w e)
         ∙ encode-undo (restrict F C k) base (𝓓 .length-base) back d (legal-restrict F C k (𝓓 .few) d 𝓛) (column F C k d w) (length-pick (C .n₀) k _ w (𝓓 .few) e)
+
+  -- with one column, at the places 0, c, 2 c, ...
+  module _ (C : Code F) (base : List R → List R) (𝓓 : Decoder F C 1 base)
+      (back : (w : List R) → length w ≡ size F (restrict F C 1) 0 → encode F (restrict F C 1) 0 (base w) ≡ w) where
+    pub decode-first : (d : ℕ) → Legal F C d → (w : List R) → length w ≡ size F C d → oneColumn F C 0 d (encode F C d (decode F C 1 base d w)) ≡ oneColumn F C 0 d w
+    decode-first d 𝓛 w e =
+        sym (every-pick 𝟘 (C .n₀) (2 ^ d) (encode F C d (decode F C 1 base d w)) (𝓓 .few) (length-encode F C d 𝓛 _))
+        ∙ decode-column C 1 base 𝓓 back d 𝓛 w e
+        ∙ every-pick 𝟘 (C .n₀) (2 ^ d) w (𝓓 .few) e
 
   -- one base row, whose first word is not 0
   module _ (g₀ : R) (g : List R) (T T' : ℕ → List R) where
