@@ -1,25 +1,23 @@
 -- The columns of a codeword of words, and when a block is the codeword of the message which its first column allows. Assumes nothing.
-use mathlib.Core.Path.{_≡_, refl, sym, ap, ap₂, _∙_}
+use mathlib.Core.Path.{_≡_, sym, ap, ap₂, _∙_}
 use mathlib.Core.Bool.{Bool, true, false, not}
 use mathlib.Core.List.{List, [], _∷_, _++_, append-assoc}
 use Prim.Native.Nat.{ℕ, _+_, _*_, _-_, _^_, _<_, _≤_}
-use native.Mathlib.Nat.{mul-comm, mul-le-mul-right}
+use native.Mathlib.Nat.{mul-le-mul-right}
 use native.Mathlib.Omega.{arith}
 use lib.Dec.{eqb}
-use lib.ListN.{length, take, drop, getD, length-append, length-take}
-use lib.Pow.{pow-pos}
-use lib.Seq.{take-at, drop-at, take-append-le, take-all}
+use lib.ListN.{length, take, drop, getD, length-take}
+use lib.Seq.{take-at, drop-at, take-all}
 use borrow.Author.Count.{below-more}
 use borrow.Author.Tests.{eq-eqb}
 use borrow.Rule.Slice.PartMut.{putMid}
 use Rattle.algebra.specs.Flags.{passes, fails}
-use Rattle.algebra.specs.Lists.{row, row-ext, map-row}
+use Rattle.algebra.specs.Lists.{row-ext, map-row}
 use Rattle.algebra.specs.Vector.{Vectors, vectors}
 use Rattle.algebra.specs.Words.{𝔽₁}
 use Rattle.algebra.specs.WordLaws.{el-apart}
 use Rattle.algebra.specs.WordLists.{Low, low-words, elements, toWords, length-elements, length-words, getD-elements, getD-words, elements-words, words-elements}
 use Rattle.foldable.specs.Code.{encode, Legal}
-use Rattle.foldable.specs.Columns.{restrict}
 use Rattle.foldable.specs.Decode.{decode, rowDecoder}
 use Rattle.foldable.specs.Encode.{length-encode}
 use Rattle.foldable.specs.Every.{every, all₂-of, columns-all, columns-one}
@@ -29,7 +27,7 @@ use Rattle.foldable.specs.OneColumn.{oneColumn, lift-column}
 use Rattle.job.specs.Limits.{maxMessage, blockSize}
 use Rattle.job.specs.LimitLaws.{power-most}
 use Rattle.residue.specs.declared.Residue.{Residue}
-use Rattle.residue.specs.Residues.{P, F, K, Element, el, elem, word, inv}
+use Rattle.residue.specs.Residues.{P, F, K, Element, el, word, inv}
 use Rattle.residue.specs.Scans.{allSame}
 use Rattle.parameters.specs.Lent.{lent, codeword}
 use Rattle.undo.specs.Steps.{DecodeInput, decoded}
@@ -146,18 +144,15 @@ first-column d (x ∷ g) t t' l h n v 𝓛 e =
 
 module _ (d : ℕ) (g t t' b : List ℕ) where
   -- the codeword of the message which the first column allows
-  abbrev codedOf : List ℕ
-  codedOf = codeword d g t t' (decoded d g t t' b)
+  abbrev coded : List ℕ
+  coded = codeword d g t t' (decoded d g t t' b)
 
   -- column a of the block is that of the codeword
   abbrev pub Agrees : ℕ → Type 0
-  Agrees a = allSame (every 0 (length g) a (2 ^ d) codedOf) (every 0 (length g) a (2 ^ d) b) ≡ true
+  Agrees a = allSame (every 0 (length g) a (2 ^ d) coded) (every 0 (length g) a (2 ^ d) b) ≡ true
 
 module _ (d : ℕ) (g t t' b : List ℕ) (k : ℕ) (𝓓 : DecodeInput d g t t' b k) where
-  abbrev coded : List ℕ
-  coded = codedOf d g t t' b
-
-  length-coded : length coded ≡ length g * 2 ^ d
+  length-coded : length (coded d g t t' b) ≡ length g * 2 ^ d
   length-coded = length-words 𝔽₁ _ ∙ length-encode F (lent g t t') d (𝓓 .coding .legal) _ ∙ ap (λ n. n * 2 ^ d) (length-elements 𝔽₁ g)
 
   pub message-lent : (j : ℕ) (w : List ℕ) → j < length g → length w ≡ k → take (2 ^ d) w ≡ decoded d g t t' b → MessageLent d j g t t' b w
@@ -174,7 +169,7 @@ module _ (d : ℕ) (g t t' b : List ℕ) (k : ℕ) (𝓓 : DecodeInput d g t t' 
         message = rw e (low-words 𝔽₁ _);
       }
 
-  agrees-first : every 0 (length g) 0 (2 ^ d) coded ≡ every 0 (length g) 0 (2 ^ d) b
+  agrees-first : every 0 (length g) 0 (2 ^ d) (coded d g t t' b) ≡ every 0 (length g) 0 (2 ^ d) b
   unfolding decoded
   agrees-first =
       let C = lent g t t' in
@@ -190,16 +185,16 @@ module _ (d : ℕ) (g t t' b : List ℕ) (k : ℕ) (𝓓 : DecodeInput d g t t' 
       let z : a ≡ 0 = omega arith in
       rw z (all₂-of eqb 0 _ _ (λ i l m. eq-eqb _ _ (ap (λ v. getD v i 0) agrees-first)))
 
-  pub agree-end : (j : ℕ) → length g ≤ j → ((a : ℕ) → a < j → Agrees d g t t' b a) → true ≡ allSame coded b
-  agree-end j h f = sym (columns-all eqb 0 (length g) (2 ^ d) coded b length-coded (𝓓 .size) (omega (arith, 𝓓 .narrow)) (λ a l. f a (omega arith)))
+  pub agree-end : (j : ℕ) → length g ≤ j → ((a : ℕ) → a < j → Agrees d g t t' b a) → true ≡ allSame (coded d g t t' b) b
+  agree-end j h f = sym (columns-all eqb 0 (length g) (2 ^ d) (coded d g t t' b) b length-coded (𝓓 .size) (omega (arith, 𝓓 .narrow)) (λ a l. f a (omega arith)))
 
   module _ (j : ℕ) (w : List ℕ) (e : take (2 ^ d) w ≡ decoded d g t t' b) (r : Bool)
       (q : r ≡ allSame (every 0 (length g) j (2 ^ d) (codeword d g t t' (take (2 ^ d) w))) (every 0 (length g) j (2 ^ d) b)) where
-    judged : r ≡ allSame (every 0 (length g) j (2 ^ d) coded) (every 0 (length g) j (2 ^ d) b)
+    judged : r ≡ allSame (every 0 (length g) j (2 ^ d) (coded d g t t' b)) (every 0 (length g) j (2 ^ d) b)
     judged = q ∙ ap (λ m. allSame (every 0 (length g) j (2 ^ d) (codeword d g t t' m)) (every 0 (length g) j (2 ^ d) b)) e
 
     pub agree-turn : not r ≡ false → ((a : ℕ) → a < j → Agrees d g t t' b a) → (a : ℕ) → a < j + 1 → Agrees d g t t' b a
     agree-turn h f = below-more _ _ f (passes judged h)
 
-    pub differs : j < length g → not r ≡ true → false ≡ allSame coded b
-    differs h n = sym (columns-one eqb 0 (length g) (2 ^ d) coded b length-coded (𝓓 .size) j h (fails judged n))
+    pub differs : j < length g → not r ≡ true → false ≡ allSame (coded d g t t' b) b
+    differs h n = sym (columns-one eqb 0 (length g) (2 ^ d) (coded d g t t' b) b length-coded (𝓓 .size) j h (fails judged n))

@@ -8,7 +8,7 @@ use native.Mathlib.Omega.{arith}
 use lib.Dec.{eqb}
 use lib.ListN.{length, take, drop, getD, set, length-append, length-take, List·getD-append}
 use lib.Seq.{paste, paste-zero, paste-suc, length-paste}
-use Rattle.algebra.specs.Lists.{row, length-row, getD-row}
+use Rattle.algebra.specs.Lists.{length-row, getD-row}
 use Rattle.algebra.specs.Tests.{all₂, all₂-turn}
 use Rattle.algebra.specs.Words.{𝔽₁}
 use Rattle.algebra.specs.WordLists.{Low, elements, toWords}
@@ -90,6 +90,13 @@ module _ (n a c : ℕ) (t t' o : List ℕ) (𝓒 : CrossLent n a c t t' o) where
         low' = low-every n a c t' (𝓒 .second) (𝓒 .low');
         block = 𝓒 .block;
       }
+
+  -- the words of the diagonals at turn i
+  pub places-in : (i p : ℕ) → i < n → p ≡ a + i * c → (p < length t) × (p < length t')
+  places-in i p h e = (place-in n a c t (𝓒 .first) i p h e, place-in n a c t' (𝓒 .second) i p h e)
+
+  pub places-low : (i p : ℕ) → i < n → p ≡ a + i * c → (getD t p 0 < P) × (getD t' p 0 < P)
+  places-low i p h e = let w = places-in i p h e in (𝓒 .low .low p (w .0), 𝓒 .low' .low p (w .1))
 
   pub up-to-none : CrossedUpTo n a c t t' o 0 o
   up-to-none = cross-none (every 0 c a n t) (every 0 c a n t') o input

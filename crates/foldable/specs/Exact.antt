@@ -7,7 +7,6 @@ use lib.ListN.{length}
 use Rattle.algebra.specs.Ring.{Ring}
 use Rattle.algebra.specs.Field.{Field}
 use Rattle.algebra.specs.Algebra.{algebra, quote, from₁}
-use Rattle.algebra.specs.Lists.{zip₄}
 use Rattle.algebra.specs.Vector.{Vectors, vectors}
 use Rattle.foldable.specs.Code.{Code, oneRow, size, dim, slope, line, encode, Legal}
 use Rattle.foldable.specs.Encode.{block-halves, below, length-encode, encode-halves}

@@ -26,7 +26,11 @@ slice-read-scaled : tie.Need-slice-read-scaled Inv-loop μ-loop
 slice-read-scaled c = let s = c .before .before .before .before in omega (arith, s .pre .room)
 
 scaled-requires : tie.Need-scaled-requires Inv-loop μ-loop
-scaled-requires c κs = let s = c .before .before .before .before in let a = s .args in let l = c .before .before .loop in (s .pre .unit, read-low (a .n) (a .a) (a .w .now) (s .pre) (l .i) (l .w) (l .inv .2) (omega arith))
+scaled-requires c κs =
+    let s = c .before .before .before .before in
+    let a = s .args in
+    let l = c .before .before .loop in
+    (s .pre .unit, read-low (a .n) (a .a) (a .w .now) (s .pre) (l .i) (l .w) (l .inv .2) (omega arith))
 
 mul-w : tie.Need-mul-w Inv-loop μ-loop
 mul-w c = let s = c .before .before .before .before .before in omega (arith, s .pre .room)
@@ -41,13 +45,22 @@ loop-less : tie.Need-loop-less Inv-loop μ-loop
 loop-less c = omega arith
 
 loop-again : tie.Need-loop-again Inv-loop μ-loop
-loop-again c = let s = c .before .before .before .before .before in let a = s .args in let l = c .before .before .before .loop in let p = scale-turn (a .n) (a .a) (a .w .now) (s .pre) (l .i) (l .w) (l .inv .2) (omega arith) _ (c .scaled .ensures) in (omega arith, scale-length (a .n) (a .a) (a .w .now) (s .pre) (l .i + 1) _ p (omega arith), p)
+loop-again c =
+    let s = c .before .before .before .before .before in
+    let a = s .args in
+    let l = c .before .before .before .loop in
+    let p = scale-turn (a .n) (a .a) (a .w .now) (s .pre) (l .i) (l .w) (l .inv .2) (omega arith) _ (c .scaled .ensures) in
+    (omega arith, scale-length (a .n) (a .a) (a .w .now) (s .pre) (l .i + 1) _ p (omega arith), p)
 
 same-length : tie.Need-same-length Inv-loop μ-loop
 same-length c = omega arith
 
 returns : tie.Need-returns Inv-loop μ-loop
-returns c = let s = c .before .before .before in let a = s .args in let l = c .before .loop in scale-end (a .n) (a .a) (a .w .now) (s .pre) (l .i) (l .w) (l .inv .2) (l .inv .0) (omega arith)
+returns c =
+    let s = c .before .before .before in
+    let a = s .args in
+    let l = c .before .loop in
+    scale-end (a .n) (a .a) (a .w .now) (s .pre) (l .i) (l .w) (l .inv .2) (l .inv .0) (omega arith)
 
 pub scale-front-spec : {M : Type 1} → statement M
 scale-front-spec =
