@@ -26,9 +26,20 @@ pub struct Folding<'a> {
 /// Writes the fold of the block into `folded`.
 pub fn fold<R: Reduce, I: Invert>(lent: &Folding<'_>, folded: &mut [u32]) -> Result<(), Refusal> {
     judge(lent, folded.len())?;
-    I::invert::<R>(1, lent.t, lent.t2, folded);
-    draw::<R>(lent, folded);
+    fold_words::<R, I>(lent.t, lent.t2, lent.block, lent.challenge, folded);
     Ok(())
+}
+
+/// Of exact lengths. The inverses of the differences stand in the result until their lines are drawn.
+pub fn fold_words<R: Reduce, I: Invert>(
+    t: &[u32],
+    t2: &[u32],
+    block: &[u32],
+    challenge: u32,
+    folded: &mut [u32],
+) {
+    I::invert::<R>(1, t, t2, folded);
+    draw::<R>(t, block, challenge, folded);
 }
 
 fn judge(lent: &Folding<'_>, folded: usize) -> Result<(), Refusal> {
@@ -41,16 +52,16 @@ fn judge(lent: &Folding<'_>, folded: usize) -> Result<(), Refusal> {
     let t = [(lent.t.len(), lower), (lent.t2.len(), lower)];
     judge::lengths(&t)?;
     judge::lengths(&[(lent.block.len(), upper), (folded, lower)])?;
-    judge::words(&[lent.t, lent.t2, lent.block, &[lent.challenge]])?;
-    judge::diagonals(lent.t, lent.t2)
+    let apart = judge::diagonals(lent.t, lent.t2)?;
+    judge::words(&[lent.block, &[lent.challenge]])?;
+    judge::ensure(apart, Refusal::Diagonals)
 }
 
 /// The value at the challenge a of the line through (t, u) and (t2, v), where s, the inverse of
 /// t2 - t, gives way to it.
-fn draw<R: Reduce>(lent: &Folding<'_>, folded: &mut [u32]) {
-    let a = lent.challenge;
-    let (left, right) = lent.block.split_at(folded.len());
-    for (((s, &t), &u), &v) in folded.iter_mut().zip(lent.t).zip(left).zip(right) {
+fn draw<R: Reduce>(t: &[u32], block: &[u32], a: u32, folded: &mut [u32]) {
+    let (left, right) = block.split_at(folded.len());
+    for (((s, &t), &u), &v) in folded.iter_mut().zip(t).zip(left).zip(right) {
         *s = plus_product::<R>(u, minus(a, t), times::<R>(*s, minus(v, u)));
     }
 }

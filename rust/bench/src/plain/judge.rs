@@ -1,6 +1,6 @@
 //! What the jobs judge, in the order of the refusals.
 
-use super::scan::{all_below, all_differ, none_zero};
+use super::scan::{all_below, none_zero, pair};
 use crate::answer::{Code, Refusal};
 use crate::sizes::{Sizes, MAX_DEPTH};
 
@@ -43,9 +43,11 @@ pub fn words(slices: &[&[u32]]) -> Result<(), Refusal> {
     ensure(low, Refusal::Word)
 }
 
-/// Refusal 6.
-pub fn diagonals(t: &[u32], t2: &[u32]) -> Result<(), Refusal> {
-    ensure(all_differ(t, t2), Refusal::Diagonals)
+/// Refusal 4 of two diagonals of the same length. Whether 6 is due comes back: it is judged last.
+pub fn diagonals(t: &[u32], t2: &[u32]) -> Result<bool, Refusal> {
+    let (below, apart) = pair(t, t2);
+    ensure(below, Refusal::Word)?;
+    Ok(apart)
 }
 
 /// Refusals 1 to 6 of a call that lends a code: `others` gives the lengths of all other slices,
@@ -66,9 +68,10 @@ pub fn code<const N: usize>(
         (code.t2.len(), due),
     ])?;
     lengths(&others(sizes))?;
-    words(&[code.g, code.t, code.t2])?;
+    words(&[code.g])?;
+    let apart = diagonals(code.t, code.t2)?;
     words(read)?;
     ensure(none_zero(code.g), Refusal::BaseRow)?;
-    diagonals(code.t, code.t2)?;
+    ensure(apart, Refusal::Diagonals)?;
     Ok(sizes)
 }

@@ -12,12 +12,11 @@ pub fn none_zero(s: &[u32]) -> bool {
     s.iter().fold(true, |ok, &w| ok & (w != 0))
 }
 
-/// Whether two slices of the same length differ in every place.
-pub fn all_differ(s: &[u32], t: &[u32]) -> bool {
-    s.iter().zip(t).fold(true, |ok, (a, b)| ok & (a != b))
-}
-
-/// Whether two slices of the same length are equal in every place.
-pub fn all_same(s: &[u32], t: &[u32]) -> bool {
-    s.iter().zip(t).fold(true, |ok, (a, b)| ok & (a == b))
+/// One pass over two slices of the same length: whether each word of both is below p, and whether
+/// they differ in every place.
+pub fn pair(s: &[u32], t: &[u32]) -> (bool, bool) {
+    let scan = |(below, apart), (&a, &b): (&u32, &u32)| {
+        (below & (a < P) & (b < P), apart & (a != b))
+    };
+    s.iter().zip(t).fold((true, true), scan)
 }

@@ -2,10 +2,16 @@
 
 use super::encode::encode_words;
 use super::evaluate::value;
+use super::fold::fold_words;
+use super::invert::SixteenChains;
 use super::judge;
 use super::residue::{minus, plus_product, times, Reduce};
 use crate::answer::{Code, Refusal};
 use crate::sizes::Sizes;
+
+/// The blocks below this level are so short that encoding takes less time than the one inversion of
+/// a fold.
+const FOLDED_FROM: usize = 6;
 
 /// Writes the opening of the message at `z` under the challenges `r`. The polynomial's value at `z`
 /// comes back, and `work` holds zeros.
@@ -52,8 +58,21 @@ fn rounds<R: Reduce>(
         }
         fold_message::<R>(r[i], left, right);
         weight = weigh::<R>(weight, z[i], r[i]);
-        encode_words::<R>(code, left, &mut opening[sizes.opening_block(i)]);
+        if i < FOLDED_FROM || i + 1 == sizes.depth {
+            encode_words::<R>(code, left, &mut opening[sizes.opening_block(i)]);
+        } else {
+            fold_block::<R>(code, sizes, i, r[i], opening);
+        }
     }
+}
+
+/// The block of level i as the fold of the block above it, which stands before it.
+fn fold_block<R: Reduce>(code: &Code<'_>, sizes: Sizes, i: usize, a: u32, opening: &mut [u32]) {
+    let (place, level) = (sizes.opening_block(i), sizes.diagonal(i));
+    let (above, block) = opening[..place.end].split_at_mut(place.start);
+    let above = &above[sizes.opening_block(i + 1)];
+    let (t, t2) = (&code.t[level.clone()], &code.t2[level]);
+    fold_words::<R, SixteenChains>(t, t2, above, a, block);
 }
 
 /// h at x: the weight, times eq of z and x, times the line with these values of the two halves.
