@@ -1,0 +1,5 @@
+// Whether a block is the codeword of a message that stands in front of the work buffer, with the message left as it is.
+
+mod peel;
+mod right;
+pub mod same;
