@@ -22,7 +22,7 @@ use Rattle.parameters.specs.LentLaws.{coding-below}
 use Rattle.code.specs.Steps.{times}
 use Rattle.halves.specs.Comparing.{CompareInput, Compared}
 use Rattle.halves.specs.Steps.{WordLent, wordSame, sameLent, sameRest, TopLent, CheckLent, Stepped, Checked}
-use Rattle.halves.proofs.Places.{take-front}
+use Rattle.halves_step.proofs.Places.{take-front}
 
 -- the codeword of one word
 word-codeword : (g t t' w : List ℕ) → 0 < length w → codeword 0 g t t' (take (2 ^ 0) w) ≡ toWords 𝔽₁ (times (el (getD w 0 0)) (elements 𝔽₁ g))

@@ -23,8 +23,8 @@ use Rattle.residue.specs.Residues.{P, F, K, Element}
 use Rattle.residue.specs.Scans.{allSame}
 use Rattle.parameters.specs.Lent.{lent, diagonal, codeword, Coding}
 use Rattle.parameters.specs.LentLaws.{coding-below, length-diagonal}
-use Rattle.halves.specs.Steps.{peeled, raised}
-use Rattle.halves.proofs.Peeling.{length-peeled, length-raised}
+use Rattle.halves_step.specs.Steps.{peeled, raised}
+use Rattle.halves_step.proofs.Peeling.{length-peeled, length-raised}
 
 infixl 66 _⊕_
 infixl 70 _⊙_

@@ -18,9 +18,10 @@ use Rattle.residue.specs.Residues.{P}
 use Rattle.residue.specs.Scans.{allSame}
 use Rattle.parameters.specs.Lent.{diagonal, codeword, Coding}
 use Rattle.parameters.specs.LentLaws.{coding-below, length-diagonal, level-end}
-use Rattle.halves.specs.Steps.{peeled, raised, LentPeel, FrontPeel, Peeled, LevelAt, sameLent, sameRest, TopLent, CheckLent, CodeLent, RightWritten, Stepped}
-use Rattle.halves.proofs.Places.{part-take, part-front, take-front, put-front, put-part}
-use Rattle.halves.proofs.Spreading.{rightOf}
+use Rattle.halves_step.specs.Steps.{peeled, raised, LentPeel, FrontPeel, Peeled, CodeLent, RightWritten}
+use Rattle.halves.specs.Steps.{LevelAt, sameLent, sameRest, TopLent, CheckLent, Stepped}
+use Rattle.halves_step.proofs.Places.{part-take, part-front, take-front, put-front, put-part}
+use Rattle.halves_step.proofs.Spreading.{rightOf}
 use Rattle.halves.proofs.Halving.{same-step, peeled-low}
 
 -- the place of a level, and that its numbers are small
@@ -47,7 +48,7 @@ peeled-same t s t' s' u u₂ v v₂ r r₂ x x₂ ok a b c d e f p =
     }
 
 -- the halves of a message, and the place of a level's diagonals
-module _ (i : ℕ) (g t t' w : List ℕ) (𝓒 : Coding (suc i) g t t') (long : 2 ^ suc i ≤ length w) (low : Low P (take (2 ^ suc i) w)) where
+module _ (i : ℕ) (g t t' w : List ℕ) (𝓒 : Coding (suc i) g t t') (long : 2 ^ suc i ≤ length w) where
   abbrev left : List ℕ
   left = take (2 ^ i) w
 
@@ -59,9 +60,6 @@ module _ (i : ℕ) (g t t' w : List ℕ) (𝓒 : Coding (suc i) g t t') (long : 
 
   length-left : length left ≡ 2 ^ i
   length-left = length-take-le (2 ^ i) w (omega (arith, two-pow-succ i))
-
-  low-right : Low P right
-  low-right = rw (sym (part-take (2 ^ i) (2 ^ i) (2 ^ suc i) w (omega (arith, two-pow-succ i)))) (low-take (2 ^ i) (low-drop (2 ^ i) low))
 
   module _ (n off end : ℕ) (𝓟 : LevelAt i (length g) n off end) where
     pub end-first : end ≤ length t
@@ -120,16 +118,16 @@ module _ (i m : ℕ) (g t t' w : List ℕ) (𝓒 : CheckLent (suc i) m g t t' w)
       record {
         coding = coding-below i (𝓒 .coding);
         depth = omega (arith, 𝓒 .depth);
-        message = low-right i g t t' w (𝓒 .coding) long (𝓒 .message);
+        message = 𝓒 .message;
         behind = omega (arith, 𝓒 .behind, two-pow-succ i);
         within = omega (arith, room, 𝓟 .size-is);
       }
 
   pub step-first : end ≤ length t
-  step-first = end-first i g t t' w (𝓒 .coding) long (𝓒 .message) n off end 𝓟
+  step-first = end-first i g t t' w (𝓒 .coding) long n off end 𝓟
 
   pub step-second : end ≤ length t'
-  step-second = end-second i g t t' w (𝓒 .coding) long (𝓒 .message) n off end 𝓟
+  step-second = end-second i g t t' w (𝓒 .coding) long n off end 𝓟
 
   abbrev u : List ℕ
   u = take n (drop m w)
@@ -183,15 +181,15 @@ module _ (i m : ℕ) (g t t' w : List ℕ) (𝓒 : CheckLent (suc i) m g t t' w)
     T' = take (end - off) (drop off t')
 
     length-T : length T ≡ n
-    length-T = length-across i g t t' w (𝓒 .coding) long (𝓒 .message) n off end 𝓟 t (𝓒 .coding .first)
+    length-T = length-across i g t t' w (𝓒 .coding) long n off end 𝓟 t (𝓒 .coding .first)
 
     pub front-peel : FrontPeel T T' part
     front-peel =
         record {
-          second = length-across i g t t' w (𝓒 .coding) long (𝓒 .message) n off end 𝓟 t' (𝓒 .coding .second) ∙ sym length-T;
+          second = length-across i g t t' w (𝓒 .coding) long n off end 𝓟 t' (𝓒 .coding .second) ∙ sym length-T;
           size = omega (arith, length-part, length-T);
-          low = low-across i g t t' w (𝓒 .coding) long (𝓒 .message) n off end 𝓟 t (𝓒 .coding .low);
-          low' = low-across i g t t' w (𝓒 .coding) long (𝓒 .message) n off end 𝓟 t' (𝓒 .coding .low');
+          low = low-across i g t t' w (𝓒 .coding) long n off end 𝓟 t (𝓒 .coding .low);
+          low' = low-across i g t t' w (𝓒 .coding) long n off end 𝓟 t' (𝓒 .coding .low');
           words = low-part;
         }
 
@@ -201,12 +199,12 @@ module _ (i m : ℕ) (g t t' w : List ℕ) (𝓒 : CheckLent (suc i) m g t t' w)
     stepped ok out lo 𝓠 =
         let k = length-T in
         let sized : length out ≡ e - m = lo ∙ length-part ∙ omega arith in
-        let across-of = across-is i g t t' w (𝓒 .coding) long (𝓒 .message) n off end 𝓟 in
+        let across-of = across-is i g t t' w (𝓒 .coding) long n off end 𝓟 in
         let 𝓠' = peeled-same T (diagonal (length g) t i) T' (diagonal (length g) t' i) (take (length T) part) u (take (length T) (drop (length T) part)) v (drop (length T + length T) part) (codeword i g t t' (rightOf (2 ^ i) w)) (take (length T) out) (take n out) ok
         (across-of t) (across-of t') (ap (λ j. take j part) k ∙ first-part) (ap (λ j. take j (drop j part)) k ∙ second-part) (ap (λ j. drop (j + j) part) k ∙ third-part) (ap (λ j. take j out) k) 𝓠 in
         let low-u : Low P u = rw first-part at (low-take n low-part) in
         let low-v : Low P v = rw second-part at (low-take n (low-drop n low-part)) in
-        let s = step-of i g t t' w (𝓒 .coding) long (𝓒 .message) n off end 𝓟 m u v (take n out) (putMid m (e - m) w₁ out) ok (𝓒 .behind)
+        let s = step-of i g t t' w (𝓒 .coding) long n off end 𝓟 m u v (take n out) (putMid m (e - m) w₁ out) ok (𝓒 .behind)
         (sym (ap length first-part) ∙ length-take n part ∙ omega (arith, length-part)) (sym (ap length second-part) ∙ length-take n (drop n part) ∙ omega (arith, length-drop n part, length-part)) low-u low-v 𝓠'
         (put-front m (e - m) w₁ out (omega (arith, room)) sized m (omega arith) ∙ take-front (m + n + n) w₁ w (𝓦 .kept) m (omega arith))
         (sym (take-take n (e - m) (drop m (putMid m (e - m) w₁ out)) (omega arith)) ∙ ap (take n) (put-part m (e - m) w₁ out (omega (arith, room)) sized)) in
@@ -225,16 +223,16 @@ module _ (i m : ℕ) (g t t' b w : List ℕ) (𝓣 : TopLent i m g t t' b w) (n 
       record {
         coding = coding-below i (𝓣 .coding);
         depth = 𝓣 .depth;
-        message = low-right i g t t' w (𝓣 .coding) top-long (𝓣 .message);
-        behind = omega (arith, 𝓣 .behind, two-pow-succ i);
+        message = 𝓣 .message;
+        behind = 𝓣 .behind;
         within = 𝓣 .within;
       }
 
   pub top-first : end ≤ length t
-  top-first = end-first i g t t' w (𝓣 .coding) top-long (𝓣 .message) n off end 𝓟
+  top-first = end-first i g t t' w (𝓣 .coding) top-long n off end 𝓟
 
   pub top-second : end ≤ length t'
-  top-second = end-second i g t t' w (𝓣 .coding) top-long (𝓣 .message) n off end 𝓟
+  top-second = end-second i g t t' w (𝓣 .coding) top-long n off end 𝓟
 
   length-block : length b ≡ n + n
   length-block = 𝓣 .size ∙ double (length g) i ∙ ap₂ _+_ (sym (𝓟 .size-is)) (sym (𝓟 .size-is))
@@ -256,16 +254,16 @@ module _ (i m : ℕ) (g t t' b w : List ℕ) (𝓣 : TopLent i m g t t' b w) (n 
     S' = take (end - off) (drop off t')
 
     length-S : length S ≡ n
-    length-S = length-across i g t t' w (𝓣 .coding) top-long (𝓣 .message) n off end 𝓟 t (𝓣 .coding .first)
+    length-S = length-across i g t t' w (𝓣 .coding) top-long n off end 𝓟 t (𝓣 .coding .first)
 
     pub lent-peel : LentPeel S S' b rest
     lent-peel =
         record {
-          second = length-across i g t t' w (𝓣 .coding) top-long (𝓣 .message) n off end 𝓟 t' (𝓣 .coding .second) ∙ sym length-S;
+          second = length-across i g t t' w (𝓣 .coding) top-long n off end 𝓟 t' (𝓣 .coding .second) ∙ sym length-S;
           size = omega (arith, length-block, length-S);
           right = length-rest ∙ sym length-S;
-          low = low-across i g t t' w (𝓣 .coding) top-long (𝓣 .message) n off end 𝓟 t (𝓣 .coding .low);
-          low' = low-across i g t t' w (𝓣 .coding) top-long (𝓣 .message) n off end 𝓟 t' (𝓣 .coding .low');
+          low = low-across i g t t' w (𝓣 .coding) top-long n off end 𝓟 t (𝓣 .coding .low);
+          low' = low-across i g t t' w (𝓣 .coding) top-long n off end 𝓟 t' (𝓣 .coding .low');
           block = 𝓣 .block;
           words = rw rest-is (low-words 𝔽₁ _);
         }
@@ -276,10 +274,10 @@ module _ (i m : ℕ) (g t t' b w : List ℕ) (𝓣 : TopLent i m g t t' b w) (n 
         let k = length-S in
         let j : e - m ≡ n = omega arith in
         let sized : length out ≡ e - m = lo ∙ length-rest ∙ sym j in
-        let across-of = across-is i g t t' w (𝓣 .coding) top-long (𝓣 .message) n off end 𝓟 in
+        let across-of = across-is i g t t' w (𝓣 .coding) top-long n off end 𝓟 in
         let 𝓠' = peeled-same S (diagonal (length g) t i) S' (diagonal (length g) t' i) (take (length S) b) (take n b) (drop (length S) b) (drop n b) rest (codeword i g t t' (rightOf (2 ^ i) w)) out out ok
         (across-of t) (across-of t') (ap (λ j. take j b) k) (ap (λ j. drop j b) k) rest-is refl 𝓠 in
-        let s = step-of i g t t' w (𝓣 .coding) top-long (𝓣 .message) n off end 𝓟 m (take n b) (drop n b) out (putMid m (e - m) w₁ out) ok (𝓣 .behind)
+        let s = step-of i g t t' w (𝓣 .coding) top-long n off end 𝓟 m (take n b) (drop n b) out (putMid m (e - m) w₁ out) ok (𝓣 .behind)
         (length-take n b ∙ omega (arith, length-block)) (length-drop n b ∙ omega (arith, length-block)) (low-take n (𝓣 .block)) (low-drop n (𝓣 .block)) 𝓠'
         (put-front m (e - m) w₁ out (omega (arith, top-room)) sized m (omega arith) ∙ 𝓦 .kept)
         (ap (λ a. take a (drop m (putMid m (e - m) w₁ out))) (sym j) ∙ put-part m (e - m) w₁ out (omega (arith, top-room)) sized) in

@@ -6,8 +6,8 @@ ghost use Rattle.job.specs.Limits.{maxDepth, maxRate};
 ghost use Rattle.residue.specs.Residues.{elem};
 ghost use Rattle.halves.specs.Steps.{WordLent, wordSame, LevelAt, TopLent, CheckLent, Stepped, sameLent, sameRest, Checked};
 ghost use Rattle.halves.specs.Comparing.{CompareInput, Compared};
-use crate::peel;
-use crate::right;
+use halves_step::peel;
+use halves_step::right;
 use residue::Residue;
 use residue::entry;
 

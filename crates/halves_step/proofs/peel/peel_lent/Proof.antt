@@ -3,9 +3,9 @@ use Prim.Native.Nat.{_-_, _≤_}
 use native.Mathlib.Omega.{arith}
 use lib.ListN.{length}
 use Rattle.residue.specs.ResidueLaws.{is-low}
-use Rattle.halves.proofs.Peeling.{LentTo, lent-none, lent-length, lent-low, lent-turn, lent-end}
-use Rattle.halves.proofs.peel.peel_lent.Statement.{statement}
-use Rattle.halves.proofs.peel.peel_lent.Tie as tie
+use Rattle.halves_step.proofs.Peeling.{LentTo, lent-none, lent-length, lent-low, lent-turn, lent-end}
+use Rattle.halves_step.proofs.peel.peel_lent.Statement.{statement}
+use Rattle.halves_step.proofs.peel.peel_lent.Tie as tie
 
 abbrev Inv-loop : tie.InvT-loop
 Inv-loop t t2 block out₀ n ok₀ i₀ out ok i = (i ≤ n) × (length out ≡ length out₀) × LentTo t t2 block out₀ i ok out
@@ -35,10 +35,10 @@ mul-minus-product-2 : tie.Need-mul-minus-product-2 Inv-loop μ-loop
 mul-minus-product-2 c = let l = c .before .before .before .loop in let s = c .before .before .before .before .before .before .before .before in let a = s .args in omega (arith, s .pre .size, s .pre .right, s .pre .second)
 
 shared-slice-read-minus-product-2 : tie.Need-shared-slice-read-minus-product-2 Inv-loop μ-loop
-shared-slice-read-minus-product-2 c = omega arith
+shared-slice-read-minus-product-2 c = let l = c .before .before .before .before .loop in let s = c .before .before .before .before .before .before .before .before .before in let a = s .args in omega (arith, s .pre .second)
 
 minus-product-requires : tie.Need-minus-product-requires Inv-loop μ-loop
-minus-product-requires c κs = let l = c .before .before .before .before .loop in let s = c .before .before .before .before .before .before .before .before .before in let a = s .args in let e = s .pre .size in (s .pre .block .low (l .i) (omega arith), s .pre .low .low (l .i) (omega arith), lent-low (a .t .now) (a .t2 .now) (a .block .now) (a .out .now) (s .pre) (l .i) (l .ok) (l .out) (omega arith) (l .inv .2))
+minus-product-requires c κs = let l = c .before .before .before .before .loop in let s = c .before .before .before .before .before .before .before .before .before in let a = s .args in let e = s .pre .size in let k = s .pre .second in let x = s .pre .low .low (l .i) (omega arith) in let y = s .pre .low' .low (l .i) (omega arith) in let u = s .pre .block .low (l .i) (omega arith) in let r = lent-low (a .t .now) (a .t2 .now) (a .block .now) (a .out .now) (s .pre) (l .i) (l .ok) (l .out) (omega arith) (l .inv .2) in (omega arith, omega arith, omega arith)
 
 mul-plus-product : tie.Need-mul-plus-product Inv-loop μ-loop
 mul-plus-product c = let l = c .before .before .before .before .before .loop in let s = c .before .before .before .before .before .before .before .before .before .before in let a = s .args in omega (arith, s .pre .size, s .pre .right, s .pre .second)
@@ -47,7 +47,7 @@ shared-slice-read-plus-product : tie.Need-shared-slice-read-plus-product Inv-loo
 shared-slice-read-plus-product c = let l = c .before .before .before .before .before .before .loop in let s = c .before .before .before .before .before .before .before .before .before .before .before in let a = s .args in omega (arith, s .pre .size, s .pre .right, s .pre .second)
 
 plus-product-requires : tie.Need-plus-product-requires Inv-loop μ-loop
-plus-product-requires c κs = let l = c .before .before .before .before .before .before .loop in let s = c .before .before .before .before .before .before .before .before .before .before .before in let a = s .args in let e = s .pre .second in (is-low _ (c .before .minus-product .ensures), s .pre .low' .low (l .i) (omega arith), lent-low (a .t .now) (a .t2 .now) (a .block .now) (a .out .now) (s .pre) (l .i) (l .ok) (l .out) (omega arith) (l .inv .2))
+plus-product-requires c κs = let l = c .before .before .before .before .before .before .loop in let s = c .before .before .before .before .before .before .before .before .before .before .before in let a = s .args in let k = s .pre .second in let x = s .pre .low .low (l .i) (omega arith) in let y = s .pre .low' .low (l .i) (omega arith) in let r = lent-low (a .t .now) (a .t2 .now) (a .block .now) (a .out .now) (s .pre) (l .i) (l .ok) (l .out) (omega arith) (l .inv .2) in (is-low _ (c .before .minus-product .ensures), omega arith, omega arith)
 
 mul-ok : tie.Need-mul-ok Inv-loop μ-loop
 mul-ok c = let l = c .before .before .before .before .before .before .before .loop in let s = c .before .before .before .before .before .before .before .before .before .before .before .before in let a = s .args in omega (arith, s .pre .size, s .pre .right, s .pre .second)

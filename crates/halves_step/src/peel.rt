@@ -2,7 +2,7 @@
 // left half, and then v is (u - t r) + t2 r.
 ghost use Prim.Native.Nat.{_+_};
 ghost use lib.ListN.{length, take, drop};
-ghost use Rattle.halves.specs.Steps.{LentPeel, FrontPeel, Peeled};
+ghost use Rattle.halves_step.specs.Steps.{LentPeel, FrontPeel, Peeled};
 use residue::entry;
 
 // Of a block that is lent, with r in out: out becomes u - t r. Whether that gives v.

@@ -14,7 +14,7 @@ use Rattle.algebra.specs.Words.{𝔽₁}
 use Rattle.algebra.specs.WordLists.{elements, toWords, length-elements, length-words, getD-elements, getD-words}
 use Rattle.residue.specs.Residues.{P, K, Element, el, word, _⊞_, _⊟_, _⊠_}
 use Rattle.residue.specs.Scans.{allSame}
-use Rattle.halves.specs.Steps.{peeled, raised, LentPeel, FrontPeel, Peeled}
+use Rattle.halves_step.specs.Steps.{peeled, raised, LentPeel, FrontPeel, Peeled}
 
 -- l f (t r), of words
 abbrev mixed : (Element → Element → Element) → List ℕ → List ℕ → List ℕ → List ℕ

@@ -1,5 +1,5 @@
 // The codeword of the right half of a message that stands in front of a slice, written behind the message in the same slice.
-ghost use Rattle.halves.specs.Steps.{RightLent, RightSpread, CodeLent, RightWritten};
+ghost use Rattle.halves_step.specs.Steps.{RightLent, RightSpread, CodeLent, RightWritten};
 use code::lift;
 use code::spread;
 use residue::Residue;

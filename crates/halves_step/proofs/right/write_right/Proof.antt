@@ -1,9 +1,9 @@
 use mathlib.Core.Path.{refl}
 use native.Mathlib.Omega.{arith}
-use Rattle.halves.proofs.Spreading.{right-lent, ends, lift-lent, written}
+use Rattle.halves_step.proofs.Spreading.{right-lent, ends, lift-lent, written}
 use borrow.Author.Needs.{needs}
-use Rattle.halves.proofs.right.write_right.Statement.{statement}
-use Rattle.halves.proofs.right.write_right.Tie as tie
+use Rattle.halves_step.proofs.right.write_right.Statement.{statement}
+use Rattle.halves_step.proofs.right.write_right.Tie as tie
 
 message-len-requires : tie.Need-message-len-requires
 message-len-requires c κs = search needs

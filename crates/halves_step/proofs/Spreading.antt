@@ -1,15 +1,15 @@
 -- The codeword of the right half of a message that stands in front of a slice, written behind the message. Assumes nothing.
 use mathlib.Core.Path.{_≡_, refl, sym, ap, ap₂, _∙_}
 use mathlib.Core.List.{List, _++_}
-use Prim.Native.Nat.{ℕ, _+_, _*_, _-_, _^_, _<_, _≤_}
-use native.Mathlib.Nat.{mul-comm, zero-mul, suc-mul}
+use Prim.Native.Nat.{ℕ, suc, _+_, _*_, _-_, _^_, _<_, _≤_}
+use native.Mathlib.Nat.{mul-comm, zero-mul, suc-mul, two-pow-succ}
 use native.Mathlib.Numerals.{add-one}
 use native.Mathlib.Omega.{arith}
 use lib.ListN.{length, take, drop, getD, length-take, length-drop}
 use lib.Seq.{take-all, take-add, getD-take, getD-drop}
 use borrow.Rule.Slice.PartMut.{putMid}
 use Rattle.algebra.specs.Words.{𝔽₁}
-use Rattle.algebra.specs.WordLists.{elements, toWords}
+use Rattle.algebra.specs.WordLists.{Low, low-take, low-drop, elements, toWords}
 use Rattle.foldable.specs.Lift.{lift}
 use Rattle.job.specs.Limits.{blockSize}
 use Rattle.residue.specs.Residues.{P, F, el}
@@ -18,8 +18,8 @@ use Rattle.code.specs.Encoding.{EncodeInput}
 use Rattle.code.specs.Steps.{times, LiftInput}
 use Rattle.code.proofs.Spreads.{spreaded, length-spreaded, length-scaled, spread-part, next-within}
 use Rattle.code.proofs.Encodes.{lifting, encoded}
-use Rattle.halves.specs.Steps.{RightLent, RightSpread, CodeLent, RightWritten}
-use Rattle.halves.proofs.Places.{getD-front, put-front, put-length, put-part, put-next}
+use Rattle.halves_step.specs.Steps.{RightLent, RightSpread, CodeLent, RightWritten}
+use Rattle.halves_step.proofs.Places.{part-take, getD-front, put-front, put-length, put-part, put-next}
 
 -- the right half of a message of two halves of n words each
 abbrev pub rightOf : ℕ → List ℕ → List ℕ
@@ -48,8 +48,12 @@ module _ (n b : ℕ) (g w : List ℕ) (𝓡 : RightLent n b g w) where
         let k = 𝓡 .behind in
         getD-front b out w (p .front) (n + i) 0 (omega arith) ∙ sym (getD-take n (drop n w) i 0 h ∙ getD-drop n w i 0)
 
-    pub word-low : getD out (n + i) 0 < P
-    word-low = rw word-is (𝓡 .message .low i (omega (arith, length-right)))
+    -- and so are its neighbours
+    pub word-low : (k : ℕ) → k < n + n → getD out k 0 < P
+    word-low k u =
+        let v = 𝓡 .behind in
+        let e = 𝓡 .within in
+        rw (getD-front b out w (p .front) k 0 (omega arith), sym (getD-take (n + n) w k 0 u)) (𝓡 .message .low k (omega (arith, length-take (n + n) w)))
 
     pub next : x + length g ≤ length out
     next = omega (arith, p .long, 𝓡 .within, next-within (rightOf n w) g i (i * length g) (omega (arith, length-right)) refl, ap (λ k. k * length g) length-right)
@@ -93,7 +97,10 @@ module _ (i b : ℕ) (g t t' w : List ℕ) (𝓒 : CodeLent i b g t t' w) where
   blocks = mul-comm (length g) (2 ^ i)
 
   pub right-lent : RightLent (2 ^ i) b g w
-  right-lent = record { message = 𝓒 .message; row = 𝓒 .coding .row; behind = 𝓒 .behind; within = omega (arith, 𝓒 .within, blocks) }
+  right-lent = record { message = rw (two-pow-succ i) at (𝓒 .message); row = 𝓒 .coding .row; behind = omega (arith, 𝓒 .behind, two-pow-succ i); within = omega (arith, 𝓒 .within, blocks) }
+
+  low-right : Low P (rightOf (2 ^ i) w)
+  low-right = rw (sym (part-take (2 ^ i) (2 ^ i) (2 ^ suc i) w (omega (arith, two-pow-succ i)))) (low-take (2 ^ i) (low-drop (2 ^ i) (𝓒 .message)))
 
   module _ (n e : ℕ) (out : List ℕ) (n-is : n ≡ 2 ^ i) (e-is : e ≡ b + length g * n) (l : length out ≡ length w) (p : RightSpread n b g w out) where
     long : e - b ≡ blockSize (length g) i
@@ -113,7 +120,7 @@ module _ (i b : ℕ) (g t t' w : List ℕ) (𝓒 : CodeLent i b g t t' w) where
         ap (λ k. take k (drop b out)) (long ∙ blocks ∙ ap (λ k. k * length g) (sym n-is)) ∙ p .base ∙ ap (λ k. spreaded (rightOf k w) g) n-is
 
     encodes : EncodeInput i g t t' (rightOf (2 ^ i) w) (length part)
-    encodes = record { coding = 𝓒 .coding; message = length-right (2 ^ i) b g w right-lent; words = 𝓒 .message; size = length-part }
+    encodes = record { coding = 𝓒 .coding; message = length-right (2 ^ i) b g w right-lent; words = low-right; size = length-part }
 
     pub lift-lent : LiftInput i g t t' part
     lift-lent = lifting i g t t' (rightOf (2 ^ i) w) part encodes part part-is

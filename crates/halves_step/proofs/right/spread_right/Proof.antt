@@ -8,9 +8,9 @@ use Rattle.algebra.specs.Words.{𝔽₁}
 use Rattle.algebra.specs.WordLists.{elements, toWords}
 use Rattle.residue.specs.Residues.{el}
 use Rattle.code.specs.Steps.{times}
-use Rattle.halves.proofs.Spreading.{SpreadTo, spread-none, word-low, next, spread-turn, spread-end}
-use Rattle.halves.proofs.right.spread_right.Statement.{statement}
-use Rattle.halves.proofs.right.spread_right.Tie as tie
+use Rattle.halves_step.proofs.Spreading.{SpreadTo, spread-none, word-low, next, spread-turn, spread-end}
+use Rattle.halves_step.proofs.right.spread_right.Statement.{statement}
+use Rattle.halves_step.proofs.right.spread_right.Tie as tie
 
 abbrev Inv-loop : tie.InvT-loop
 Inv-loop n b g work₀ c i₀ x₀ work i x = (i ≤ n) × (x ≡ b + i * length g) × SpreadTo n b g work₀ i work
@@ -34,7 +34,7 @@ slice-read-new : tie.Need-slice-read-new Inv-loop μ-loop
 slice-read-new c = let l = c .before .before .loop in let s = c .before .before .before .before .before in let a = s .args in omega (arith, s .pre .behind, s .pre .within)
 
 new-requires : tie.Need-new-requires Inv-loop μ-loop
-new-requires c κs = let l = c .before .before .loop in let s = c .before .before .before .before .before in let a = s .args in word-low (a .n) (a .b) (a .g .now) (a .work .now) (s .pre) (l .i) (l .x) (l .work) (omega arith) (l .inv .1) (l .inv .2)
+new-requires c κs = let l = c .before .before .loop in let s = c .before .before .before .before .before in let a = s .args in word-low (a .n) (a .b) (a .g .now) (a .work .now) (s .pre) (l .i) (l .x) (l .work) (omega arith) (l .inv .1) (l .inv .2) _ (omega arith)
 
 mul-scale : tie.Need-mul-scale Inv-loop μ-loop
 mul-scale c = let l = c .before .before .before .loop in let s = c .before .before .before .before .before .before in let a = s .args in omega (arith, next (a .n) (a .b) (a .g .now) (a .work .now) (s .pre) (l .i) (l .x) (l .work) (omega arith) (l .inv .1) (l .inv .2))
@@ -49,7 +49,7 @@ part-scale-end : tie.Need-part-scale-end Inv-loop μ-loop
 part-scale-end c = let l = c .before .before .before .loop in let s = c .before .before .before .before .before .before in let a = s .args in omega (arith, next (a .n) (a .b) (a .g .now) (a .work .now) (s .pre) (l .i) (l .x) (l .work) (omega arith) (l .inv .1) (l .inv .2))
 
 scale-requires : tie.Need-scale-requires Inv-loop μ-loop
-scale-requires c κs = let l = c .before .before .before .before .loop in let s = c .before .before .before .before .before .before .before in let a = s .args in let e = next (a .n) (a .b) (a .g .now) (a .work .now) (s .pre) (l .i) (l .x) (l .work) (omega arith) (l .inv .1) (l .inv .2) in (rw (c .before .new .ensures) (word-low (a .n) (a .b) (a .g .now) (a .work .now) (s .pre) (l .i) (l .x) (l .work) (omega arith) (l .inv .1) (l .inv .2)), s .pre .row, simp (length-take, length-drop) (omega arith))
+scale-requires c κs = let l = c .before .before .before .before .loop in let s = c .before .before .before .before .before .before .before in let a = s .args in let e = next (a .n) (a .b) (a .g .now) (a .work .now) (s .pre) (l .i) (l .x) (l .work) (omega arith) (l .inv .1) (l .inv .2) in (rw (c .before .new .ensures) (word-low (a .n) (a .b) (a .g .now) (a .work .now) (s .pre) (l .i) (l .x) (l .work) (omega arith) (l .inv .1) (l .inv .2) _ (omega arith)), s .pre .row, simp (length-take, length-drop) (omega arith))
 
 add-i : tie.Need-add-i Inv-loop μ-loop
 add-i c = omega arith
