@@ -43,6 +43,12 @@ first-low d w h l =
     let p : 0 < 2 ^ d = pow-pos d in
     rw (sym (getD-take (2 ^ d) w 0 0 p)) (l .low 0 (omega (arith, length-take (2 ^ d) w)))
 
+-- the left half of a message in front that is kept
+left-low : (i m : ℕ) (w w' : List ℕ) → 2 ^ suc i ≤ m → take m w' ≡ take m w → LowWords P (take (2 ^ suc i) w) → LowWords P (take (2 ^ i) w')
+left-low i m w w' h kept l =
+    rw (take-front m w' w kept (2 ^ i) (omega (arith, two-pow-succ i)))
+    (rw (take-take (2 ^ i) (2 ^ suc i) w (omega (arith, two-pow-succ i))) at (low-take (2 ^ i) l))
+
 -- level 0, in the rest
 module _ (d m : ℕ) (g t t' w : List ℕ) (𝓒 : CheckLent d m g t t' w) where
   long : 2 ^ d ≤ length w
@@ -84,8 +90,7 @@ module _ (d i m : ℕ) (g t t' w : List ℕ) (e : suc i ≡ d) (𝓒 : CheckLent
           coding = coding-below i (𝓓 .coding);
           depth = omega (arith, 𝓓 .depth);
           wide = 𝓓 .wide;
-          message = rw (take-front m w' w (𝓢 .kept) (2 ^ i) (omega (arith, 𝓓 .behind, two-pow-succ i)))
-              (rw (take-take (2 ^ i) (2 ^ suc i) w (omega (arith, two-pow-succ i))) at (low-take (2 ^ i) (𝓓 .message)));
+          message = left-low i m w w' (𝓓 .behind) (𝓢 .kept) (𝓓 .message);
           behind = omega (arith, 𝓓 .behind, two-pow-succ i);
           within = omega (arith, 𝓓 .within, double (length g) i);
           block = 𝓢 .block;
@@ -121,6 +126,9 @@ module _ (d : ℕ) (g t t' b w : List ℕ) (𝓘 : CompareInput d g t t' b w) wh
 
   -- from depth i + 1
   module _ (i m : ℕ) (e : suc i ≡ d) (m-is : m ≡ 2 ^ d) where
+    halves : length w ≡ blockSize (length g) i + blockSize (length g) i
+    halves = 𝓘 .work ∙ ap (blockSize (length g)) (sym e) ∙ double (length g) i
+
     pub top-down : TopLent i m g t t' b w
     top-down =
         let coding = 𝓘 .coding in
@@ -135,21 +143,16 @@ module _ (d : ℕ) (g t t' b w : List ℕ) (𝓘 : CompareInput d g t t' b w) wh
           size = rw e (𝓘 .size);
           block = 𝓘 .block;
         }
-      where
-        halves : length w ≡ blockSize (length g) i + blockSize (length g) i
-        halves = 𝓘 .work ∙ ap (blockSize (length g)) (sym e) ∙ double (length g) i
 
     module _ (ok : Bool) (w' : List ℕ) (l : length w' ≡ length w) (𝓢 : Stepped i m g t t' (sameLent (suc i) g t t' b w) w ok w') where
       pub top-next : CheckLent i m g t t' w'
       top-next =
           let 𝓣 = top-down in
-          let halves : length w ≡ blockSize (length g) i + blockSize (length g) i = 𝓘 .work ∙ ap (blockSize (length g)) (sym e) ∙ double (length g) i in
           record {
             coding = coding-below i (𝓣 .coding);
             depth = 𝓣 .depth;
             wide = 𝓣 .wide;
-            message = rw (take-front m w' w (𝓢 .kept) (2 ^ i) (omega (arith, 𝓣 .behind, two-pow-succ i)))
-                (rw (take-take (2 ^ i) (2 ^ suc i) w (omega (arith, two-pow-succ i))) at (low-take (2 ^ i) (𝓣 .message)));
+            message = left-low i m w w' (𝓣 .behind) (𝓢 .kept) (𝓣 .message);
             behind = omega (arith, 𝓣 .behind, two-pow-succ i);
             within = omega (arith, halves, least, m-is);
             block = 𝓢 .block;

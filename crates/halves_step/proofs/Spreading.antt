@@ -48,7 +48,7 @@ module _ (n b : ℕ) (g w : List ℕ) (𝓡 : RightLent n b g w) where
         let k = 𝓡 .behind in
         getD-front b out w (p .front) (n + i) 0 (omega arith) ∙ sym (getD-take n (drop n w) i 0 h ∙ getD-drop n w i 0)
 
-    -- and so are its neighbours
+    -- and the message's words are below the modulus
     pub word-low : (k : ℕ) → k < n + n → getD out k 0 < P
     word-low k u =
         let v = 𝓡 .behind in

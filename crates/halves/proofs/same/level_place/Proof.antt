@@ -11,7 +11,7 @@ mul-size : tie.Need-mul-size
 mul-size c = let s = c .before in let a = s .args in let p = level-at (a .level) (a .c) (c .message-len .result) (s .pre .0) (s .pre .1) (c .message-len .ensures) in omega (arith, p .most)
 
 sub-off : tie.Need-sub-off
-sub-off c = let s = c .before in let a = s .args in let p = level-at (a .level) (a .c) (c .message-len .result) (s .pre .0) (s .pre .1) (c .message-len .ensures) in p .some
+sub-off c = let s = c .before in let a = s .args in let p = level-at (a .level) (a .c) (c .message-len .result) (s .pre .0) (s .pre .1) (c .message-len .ensures) in omega (arith, p .some)
 
 mul-off : tie.Need-mul-off
 mul-off c = let s = c .before in let a = s .args in let p = level-at (a .level) (a .c) (c .message-len .result) (s .pre .0) (s .pre .1) (c .message-len .ensures) in omega (arith, p .most, p .less)
