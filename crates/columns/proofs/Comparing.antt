@@ -9,7 +9,6 @@ use lib.Dec.{eqb}
 use lib.ListN.{length, take, drop, getD, length-take}
 use lib.Seq.{take-at, drop-at, take-all}
 use borrow.Author.Count.{below-more}
-use borrow.Author.Tests.{eq-eqb}
 use borrow.Rule.Slice.PartMut.{putMid}
 use Rattle.algebra.specs.Flags.{passes, fails}
 use Rattle.algebra.specs.Lists.{row-ext, map-row}
@@ -20,7 +19,7 @@ use Rattle.algebra.specs.WordLists.{Low, low-words, elements, toWords, length-e
 use Rattle.foldable.specs.Code.{encode, Legal}
 use Rattle.foldable.specs.Decode.{decode, rowDecoder}
 use Rattle.foldable.specs.Encode.{length-encode}
-use Rattle.foldable.specs.Every.{every, all₂-of, columns-all, columns-one}
+use Rattle.foldable.specs.Every.{every, columns-all, columns-one}
 use Rattle.foldable.specs.Exact.{decode-first, row-back}
 use Rattle.foldable.specs.Lift.{lift}
 use Rattle.foldable.specs.OneColumn.{oneColumn, lift-column}
@@ -29,6 +28,7 @@ use Rattle.job.specs.LimitLaws.{power-most}
 use Rattle.residue.specs.declared.Residue.{Residue}
 use Rattle.residue.specs.Residues.{P, F, K, Element, el, word, inv}
 use Rattle.residue.specs.Scans.{allSame}
+use Rattle.residue.specs.ScanLaws.{is-same}
 use Rattle.parameters.specs.Lent.{lent, codeword}
 use Rattle.undo.specs.Steps.{DecodeInput, decoded}
 use Rattle.columns.specs.Steps.{lentColumn, ScaleLent, ColumnLent, MessageLent}
@@ -183,7 +183,7 @@ module _ (d : ℕ) (g t t' b : List ℕ) (k : ℕ) (𝓓 : DecodeInput d g t t' 
   pub agree-none : (a : ℕ) → a < 1 → Agrees d g t t' b a
   agree-none a h =
       let z : a ≡ 0 = omega arith in
-      rw z (all₂-of eqb 0 _ _ (λ i l m. eq-eqb _ _ (ap (λ v. getD v i 0) agrees-first)))
+      rw z (is-same _ _ agrees-first)
 
   pub agree-end : (j : ℕ) → length g ≤ j → ((a : ℕ) → a < j → Agrees d g t t' b a) → true ≡ allSame (coded d g t t' b) b
   agree-end j h f = sym (columns-all eqb 0 (length g) (2 ^ d) (coded d g t t' b) b length-coded (𝓓 .size) (omega (arith, 𝓓 .narrow)) (λ a l. f a (omega arith)))

@@ -3,7 +3,7 @@ use mathlib.Core.Path.{_≡_, refl, sym, ap, ap₂, _∙_}
 use mathlib.Core.Bool.{true, false, _&&_, false≢true}
 use mathlib.Core.List.{List, [], _∷_}
 use Prim.Native.Nat.{ℕ, _*_, _^_, _≤_}
-use native.Mathlib.Nat.{one-mul}
+use native.Mathlib.Nat.{one-mul, suc-mul, mul-le-mul-right}
 use native.Mathlib.Omega.{arith}
 use lib.Dec.{eqb}
 use lib.ListN.{length, take, length-take}
@@ -17,21 +17,14 @@ use Rattle.foldable.specs.Decode.{decodes, length-decode}
 use Rattle.foldable.specs.Encode.{length-encode}
 use Rattle.residue.specs.Residues.{P, F}
 use Rattle.residue.specs.Scans.{allSame}
+use Rattle.residue.specs.ScanLaws.{same-is, is-same}
 use Rattle.parameters.specs.Lent.{lent, codeword}
 use Rattle.undo.specs.Steps.{DecodeInput, decoded}
 use Rattle.job.specs.declared.Answer.the-variants.{Done, Refused}
 use Rattle.job.specs.declared.Refusal.the-variants.{NoCodeword}
 use Rattle.decode.specs.Decoding.{Settled, message, none}
 use Rattle.decode.specs.Laws.{decoder}
-use Rattle.decode.specs.Steps.{MessageLent}
-
-same-is : (v w : List ℕ) → length w ≡ length v → allSame v w ≡ true → v ≡ w
-same-is v w l e = ext-getD 0 v w (sym l) (λ k h. eqb-true _ _ (all₂-at eqb v w 0 e k h (omega arith)))
-
-same-self : (v : List ℕ) → allSame v v ≡ true
-unfolding all₂
-same-self [] = refl
-same-self (x ∷ v) = ap₂ _&&_ (eq-eqb x x refl) (same-self v)
+use Rattle.halves.specs.Comparing.{CompareInput}
 
 module _ (d : ℕ) (g t t' b : List ℕ) (k : ℕ) (𝓓 : DecodeInput d g t t' b k) where
   length-block : length (elements 𝔽₁ b) ≡ length (elements 𝔽₁ g) * 2 ^ d
@@ -48,11 +41,21 @@ module _ (d : ℕ) (g t t' b : List ℕ) (k : ℕ) (𝓓 : DecodeInput d g t t' 
   unfolding decoded
   low-decoded = low-words 𝔽₁ _
 
-  -- the message is encoded again
-  pub again : (w : List ℕ) → length w ≡ k → take (2 ^ d) w ≡ decoded d g t t' b → MessageLent d g t t' w
-  again w l e = record { coding = 𝓓 .coding; depth = 𝓓 .depth; some = omega (arith, 𝓓 .narrow); message = rw e low-decoded; size = l ∙ 𝓓 .work }
+  -- the message is compared by halves
+  pub by-halves : (w : List ℕ) → length w ≡ k → 4 ≤ length g → take (2 ^ d) w ≡ decoded d g t t' b → CompareInput d g t t' b w
+  by-halves w l narrow e =
+      record {
+        coding = 𝓓 .coding;
+        depth = 𝓓 .depth;
+        narrow = narrow;
+        wide = 𝓓 .wide;
+        size = 𝓓 .size;
+        block = 𝓓 .block;
+        work = l ∙ 𝓓 .work;
+        message = rw e low-decoded;
+      }
 
-  -- and compared
+  -- what it is compared with
   abbrev pub coded : List ℕ
   coded = codeword d g t t' (decoded d g t t' b)
 
@@ -64,7 +67,7 @@ module _ (d : ℕ) (g t t' b : List ℕ) (k : ℕ) (𝓓 : DecodeInput d g t t' 
   pub found : (old out : List ℕ) → allSame coded b ≡ true → out ≡ decoded d g t t' b → Settled d g t t' b old Done out
   found old out e q =
       message refl (ap length q ∙ length-decoded) (rw q low-decoded)
-      (ap (codeword d g t t') q ∙ same-is coded b (sym length-coded) e)
+      (ap (codeword d g t t') q ∙ same-is coded b length-coded e)
 
   codeword-same : Codeword F (lent g t t') d (elements 𝔽₁ b) → coded ≡ b
   unfolding decoded
@@ -74,11 +77,8 @@ module _ (d : ℕ) (g t t' b : List ℕ) (k : ℕ) (𝓓 : DecodeInput d g t t' 
       ∙ words-elements 𝔽₁ b (𝓓 .block)
 
   pub not-found : (old : List ℕ) → allSame coded b ≡ false → Settled d g t t' b old (Refused NoCodeword) old
-  not-found old e = none refl (λ w. false≢true (sym e ∙ ap (λ v. allSame v b) (codeword-same w) ∙ same-self b)) refl
+  not-found old e = none refl (λ w. false≢true (sym e ∙ ap (λ v. allSame v b) (codeword-same w) ∙ is-same b b refl)) refl
 
-  -- and taken from the front of the work buffer
-  pub front : (w : List ℕ) (n : ℕ) → n ≡ 2 ^ d → take (2 ^ d) w ≡ decoded d g t t' b → (take n w ≡ decoded d g t t' b) × (n ≡ length (take n w)) × (n ≤ length w)
-  front w n e q =
-      let p : take n w ≡ decoded d g t t' b = ap (λ i. take i w) e ∙ q in
-      let l : length (take n w) ≡ n = ap length p ∙ length-decoded ∙ sym e in
-      (p, sym l, omega (arith, length-take n w))
+  -- the message is taken from the front of the work buffer
+  pub front-within : (w : List ℕ) → length w ≡ k → 2 ^ d ≤ length w
+  front-within w l = omega (arith, 𝓓 .work, mul-le-mul-right (2 ^ d) (𝓓 .narrow), one-mul (2 ^ d), suc-mul 1 (2 ^ d))

@@ -1,24 +1,19 @@
--- What the steps of encoding a decoded message again are lent. Definitions only. Assumes nothing.
+-- What the steps of decoding are lent, and what they leave. Definitions only. Assumes nothing.
 use mathlib.Core.Path.{_≡_}
+use mathlib.Core.Bool.{Bool}
 use mathlib.Core.List.{List}
-use Prim.Native.Nat.{ℕ, _*_, _^_, _≤_, _<_}
+use Prim.Native.Nat.{ℕ, _^_}
 use lib.ListN.{length, take}
-use Rattle.algebra.specs.WordLists.{Low}
-use Rattle.job.specs.Limits.{maxDepth, blockSize}
-use Rattle.residue.specs.Residues.{P}
-use Rattle.parameters.specs.Lent.{Coding}
+use Rattle.residue.specs.Scans.{allSame}
+use Rattle.parameters.specs.Lent.{codeword}
+use Rattle.undo.specs.Steps.{DecodeInput, decoded}
 
--- a message of n words in front of as many base blocks
-pub record SpreadLent (n : ℕ) (g w : List ℕ) : Type 0 where
-  pub some : 0 < length g
-  pub message : Low P (take n w)
-  pub row : Low P g
-  pub size : length w ≡ n * length g
+-- the only message that the block b allows stands in front of the work buffer w
+pub record Found (d : ℕ) (g t t' b w : List ℕ) : Type 0 where
+  pub lent : DecodeInput d g t t' b (length w)
+  pub message : take (2 ^ d) w ≡ decoded d g t t' b
 
--- a message of depth d in front of a block
-pub record MessageLent (d : ℕ) (g t t' w : List ℕ) : Type 0 where
-  pub coding : Coding d g t t'
-  pub depth : d ≤ maxDepth
-  pub some : 0 < length g
-  pub message : Low P (take (2 ^ d) w)
-  pub size : length w ≡ blockSize (length g) d
+-- whether the block is its codeword, and the message in front of the work buffer w
+pub record Tried (d : ℕ) (g t t' b : List ℕ) (r : Bool) (w : List ℕ) : Type 0 where
+  pub answer : r ≡ allSame (codeword d g t t' (decoded d g t t' b)) b
+  pub message : take (2 ^ d) w ≡ decoded d g t t' b

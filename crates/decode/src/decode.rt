@@ -1,22 +1,41 @@
 // The message of a codeword.
 ghost use mathlib.Core.Path.{_≡_};
 ghost use mathlib.Core.Bool.{_&&_};
-ghost use Prim.Native.Nat.{_^_};
-ghost use lib.ListN.{length, replicate};
+ghost use Prim.Native.Nat.{_^_, _≤_};
+ghost use lib.ListN.{length, take, replicate};
 ghost use Rattle.job.specs.Outcome.{outcome};
-ghost use Rattle.residue.specs.Scans.{allSame};
-ghost use Rattle.parameters.specs.Lent.{codeword};
 ghost use Rattle.parameters.specs.Parameters.{inLimits};
-ghost use Rattle.undo.specs.Steps.{DecodeInput, decoded};
+ghost use Rattle.undo.specs.Steps.{DecodeInput};
 ghost use Rattle.decode.specs.Decoding.{decodeLengths, judgeDecoding, Settled, Decoded};
-use crate::again;
+ghost use Rattle.decode.specs.Steps.{Found, Tried};
+use halves::same;
 use job::Answer;
 use job::Refusal;
-use residue::scan;
 use residue::words;
 use undo::message;
 
-// Whether the block is the codeword of the only message that it allows.
+// From this rate on the codeword of half a message, and half as much again, find room behind the message.
+const BY_HALVES: usize = 4;
+
+// Whether the block is the codeword of the message that was found, which stays in front of work.
+fn is_its_codeword(
+    depth: u32,
+    g: &[u32],
+    t: &[u32],
+    t2: &[u32],
+    block: &[u32],
+    work: &mut [u32],
+) -> bool
+    requires { ⌜ Found depth (now g) (now t) (now t2) (now block) (now work) ⌝ }
+    ensures { λ r. ⌜ Tried depth (now (g .entry)) (now (t .entry)) (now (t2 .entry)) (now (block .entry)) r (now (work .exit)) ⌝ }
+{
+    if g.len() < BY_HALVES {
+        return columns::same_columns(depth, g, t, t2, block, work);
+    }
+    same::same_codeword(depth, g, t, t2, block, work)
+}
+
+// Whether the block is the codeword of the only message that it allows, which then stands in front of work.
 fn is_codeword(
     depth: u32,
     g: &[u32],
@@ -26,27 +45,17 @@ fn is_codeword(
     work: &mut [u32],
 ) -> bool
     requires { ⌜ DecodeInput depth (now g) (now t) (now t2) (now block) (length (now work)) ⌝ }
-    ensures { λ r. ⌜ r ≡ allSame (codeword depth (now (g .entry)) (now (t .entry)) (now (t2 .entry)) (decoded depth (now (g .entry)) (now (t .entry)) (now (t2 .entry)) (now (block .entry)))) (now (block .entry)) ⌝ }
+    ensures { λ r. ⌜ Tried depth (now (g .entry)) (now (t .entry)) (now (t2 .entry)) (now (block .entry)) r (now (work .exit)) ⌝ }
 {
     message::message_of(depth, g, t, t2, block, work);
-    again::encode_again(depth, g, t, t2, work);
-    scan::all_same(work, block)
+    is_its_codeword(depth, g, t, t2, block, work)
 }
 
-// The message, in out.
-fn give(
-    depth: u32,
-    g: &[u32],
-    t: &[u32],
-    t2: &[u32],
-    block: &[u32],
-    out: &mut [u32],
-    work: &mut [u32],
-)
-    requires { ⌜ (DecodeInput depth (now g) (now t) (now t2) (now block) (length (now work))) × (length (now out) ≡ 2 ^ depth) ⌝ }
-    ensures { λ _. ⌜ now (out .exit) ≡ decoded depth (now (g .entry)) (now (t .entry)) (now (t2 .entry)) (now (block .entry)) ⌝ }
+// The message, from the front of work.
+fn give(out: &mut [u32], work: &[u32])
+    requires { ⌜ length (now out) ≤ length (now work) ⌝ }
+    ensures { λ _. ⌜ now (out .exit) ≡ take (length (now (out .entry))) (now (work .entry)) ⌝ }
 {
-    message::message_of(depth, g, t, t2, block, work);
     let n = out.len();
     words::copy(&work[..n], out);
 }
@@ -75,7 +84,7 @@ fn settle(
     if !is_codeword(depth, g, t, t2, block, work) {
         return cleared(Answer::Refused(Refusal::NoCodeword), work);
     }
-    give(depth, g, t, t2, block, out, work);
+    give(out, work);
     cleared(Answer::Done, work)
 }
 

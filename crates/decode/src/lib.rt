@@ -1,4 +1,3 @@
 // Decoding: the message of a codeword.
 
-mod again;
 pub mod decode;

@@ -8,7 +8,7 @@ use native.Mathlib.Omega.{arith}
 use lib.ListN.{length, getD, List·getD-append}
 use lib.Seq.{getD-append-add, ext-getD}
 use Rattle.algebra.specs.Lists.{row, length-row, getD-row, row-ext, row-append, zip, getD-zip, zip-row}
-use Rattle.algebra.specs.Tests.{all₂, all₂-at}
+use Rattle.algebra.specs.Tests.{all₂, all₂-at, all₂-of}
 use Rattle.foldable.specs.Columns.{pick, length-pick, getD-pick}
 
 -- place a of block i lies within b blocks of c places
@@ -42,16 +42,10 @@ module _ {A : Type 0} (d : A) where
 
 -- a test of all places of two lists, column by column
 module _ {A : Type 0} (f : A → A → Bool) (d : A) where
-  pub all₂-of : (xs ys : List A) → ((k : ℕ) → k < length xs → k < length ys → f (getD xs k d) (getD ys k d) ≡ true) → all₂ f xs ys ≡ true
-  unfolding all₂
-  all₂-of [] ys h = refl
-  all₂-of (x ∷ xs) [] h = refl
-  all₂-of (x ∷ xs) (y ∷ ys) h = ap₂ _&&_ (h 0 (omega arith) (omega arith)) (all₂-of xs ys (λ k l m. h (suc k) (omega arith) (omega arith)))
-
   module _ (c b : ℕ) (v w : List A) (lv : length v ≡ c * b) (lw : length w ≡ c * b) where
     -- it holds where it holds of each column
     pub columns-all : 0 < c → ((a : ℕ) → a < c → all₂ f (every d c a b v) (every d c a b w) ≡ true) → all₂ f v w ≡ true
-    columns-all some h = all₂-of v w (λ k l m. at k (omega arith))
+    columns-all some h = all₂-of f v w d (λ k l m. at k (omega arith))
       where
         at : (k : ℕ) → k < c * b → f (getD v k d) (getD w k d) ≡ true
         at k l =
@@ -74,7 +68,7 @@ module _ {A : Type 0} (f : A → A → Bool) (d : A) where
             absurd
             (false≢true
             (sym e
-            ∙ all₂-of (every d c a b v) (every d c a b w)
+            ∙ all₂-of f (every d c a b v) (every d c a b w) d
             (λ i l m. let below : i < b = omega (arith, n v) in
             let within = place-within c b a i h below in
             let x : (u : List A) → getD (every d c a b u) i d ≡ getD u (a + i * c) d = λ u. getD-row b (λ i. getD u (a + i * c) d) i d below in

@@ -7,10 +7,7 @@ use mathlib.Core.List.{List, [], _∷_, _++_}
 use Prim.Native.Nat.{ℕ, suc, _+_, _*_, _^_}
 use native.Mathlib.Nat.{one-mul}
 use native.Mathlib.Omega.{arith}
-use lib.Dec.{eqb}
 use lib.ListN.{length, length-append}
-use lib.Seq.{ext-getD}
-use borrow.Author.Tests.{eqb-true, eq-eqb}
 use Rattle.algebra.specs.Tests.{all₂, all₂-at, and-both}
 use Rattle.algebra.specs.Vector.{Vectors, vectors}
 use Rattle.algebra.specs.Words.{𝔽₁}
@@ -21,6 +18,7 @@ use Rattle.foldable.specs.Peel.{peel, peel-encode}
 use Rattle.job.specs.Limits.{blockSize}
 use Rattle.residue.specs.Residues.{P, F, K, Element}
 use Rattle.residue.specs.Scans.{allSame}
+use Rattle.residue.specs.ScanLaws.{same-is, is-same}
 use Rattle.parameters.specs.Lent.{lent, diagonal, codeword, Coding}
 use Rattle.parameters.specs.LentLaws.{coding-below, length-diagonal}
 use Rattle.halves_step.specs.Steps.{peeled, raised}
@@ -29,18 +27,6 @@ use Rattle.halves_step.proofs.Peeling.{length-peeled, length-raised}
 infixl 66 _⊕_
 infixl 70 _⊙_
 open Vectors (vectors K) using (_⊕_, _⊙_)
-
--- two lists of one length are the same exactly where the test says so
-pub same-is : (v w : List ℕ) → length v ≡ length w → allSame v w ≡ true → v ≡ w
-same-is v w l e = ext-getD 0 v w l (λ k h. eqb-true _ _ (all₂-at eqb v w 0 e k h (omega arith)))
-
-same-self : (v : List ℕ) → allSame v v ≡ true
-unfolding all₂
-same-self [] = refl
-same-self (x ∷ v) = ap₂ _&&_ (eq-eqb x x refl) (same-self v)
-
-pub is-same : (v w : List ℕ) → v ≡ w → allSame v w ≡ true
-is-same v w e = ap (allSame v) (sym e) ∙ same-self v
 
 -- two tests that hold together
 both-ways : (a b : Bool) → (a ≡ true → b ≡ true) → (b ≡ true → a ≡ true) → a ≡ b

@@ -6,12 +6,12 @@ use Prim.Native.Nat.{ℕ, zero, suc, _-_, _<_, _≤_}
 use native.Mathlib.Omega.{arith}
 use lib.Dec.{ltb, eqb}
 use lib.ListN.{length, getD, take, drop, length-drop}
-use lib.Seq.{take-all}
-use borrow.Author.Tests.{lt-ltb, ltb-true, not-true, eqb-false}
-use Rattle.algebra.specs.Tests.{all, all₂, all-at, all-of, all₂-at, all₂-end}
+use lib.Seq.{take-all, ext-getD}
+use borrow.Author.Tests.{lt-ltb, ltb-true, not-true, eqb-false, eqb-true, eq-eqb}
+use Rattle.algebra.specs.Tests.{all, all₂, all-at, all-of, all₂-at, all₂-of, all₂-end}
 use Rattle.algebra.specs.WordLists.{Low}
 use Rattle.residue.specs.Residues.{P}
-use Rattle.residue.specs.Scans.{allBelow, noneZero, allDiffer, PlacesScanned, PairScanned}
+use Rattle.residue.specs.Scans.{allBelow, noneZero, allDiffer, allSame, PlacesScanned, PairScanned}
 
 pub all-below : (ws : List ℕ) → allBelow ws ≡ true → Low P ws
 all-below ws e = record { low = λ k h. ltb-true _ _ (all-at (λ x. ltb x P) ws 0 e k h) }
@@ -24,6 +24,13 @@ all-differ ws vs e k h l = eqb-false _ _ (not-true _ (all₂-at (λ x y. not (eq
 
 pub below-all : (ws : List ℕ) → Low P ws → allBelow ws ≡ true
 below-all ws l = all-of (λ x. ltb x P) ws 0 (λ k h. lt-ltb (getD ws k 0) P (l .low k h))
+
+-- two lists of one length are the same exactly where the test says so
+pub same-is : (ws vs : List ℕ) → length ws ≡ length vs → allSame ws vs ≡ true → ws ≡ vs
+same-is ws vs l e = ext-getD 0 ws vs l (λ k h. eqb-true _ _ (all₂-at eqb ws vs 0 e k h (omega arith)))
+
+pub is-same : (ws vs : List ℕ) → ws ≡ vs → allSame ws vs ≡ true
+is-same ws vs e = all₂-of eqb ws vs 0 (λ k h l. eq-eqb _ _ (ap (λ x. getD x k 0) e))
 
 -- both below, first in the places that two lists share and then in the rest of each
 and-false : (a : Bool) → (a && false) ≡ false
