@@ -132,8 +132,8 @@ fn lift_column<R: Reduce>(code: &Code<'_>, j: usize, column: &mut [u32]) {
     }
 }
 
-/// By halves: a block of halves u and v is the codeword of a message of halves l and r where
-/// v - u = (t2 - t) R, with R the codeword of r, and u - t R is the codeword of l.
+/// By halves: with R the codeword of the message's right half, a block of halves u and v is the
+/// codeword of the message where u - t R is that of the left half, and v is (u - t R) + t2 R.
 fn same_halves<R: Reduce>(
     code: &Code<'_>,
     block: &[u32],
@@ -163,24 +163,25 @@ fn same_halves<R: Reduce>(
     same_base::<R>(message[0], code.g, space)
 }
 
-/// Where the halves are lent: whether they have the slopes `right`, which become u - t R.
+/// Where the halves are lent: `right` becomes u - t R. Whether that gives v.
 fn peel_lent<R: Reduce>(code: &Code<'_>, u: &[u32], v: &[u32], right: &mut [u32]) -> bool {
     let (t, t2) = level(code, right.len());
     let mut same = true;
     for ((((r, &u), &v), &t), &t2) in right.iter_mut().zip(u).zip(v).zip(t).zip(t2) {
-        same &= times::<R>(minus(t2, t), *r) == minus(v, u);
-        *r = minus(u, times::<R>(t, *r));
+        let left = minus(u, times::<R>(t, *r));
+        same &= plus_product::<R>(left, t2, *r) == v;
+        *r = left;
     }
     same
 }
 
-/// Whether the halves have the slopes `right`; the left half becomes u - t R.
+/// The left half becomes u - t R. Whether that gives v.
 fn peel<R: Reduce>(code: &Code<'_>, u: &mut [u32], v: &[u32], right: &[u32]) -> bool {
     let (t, t2) = level(code, right.len());
     let mut same = true;
     for ((((u, &v), &r), &t), &t2) in u.iter_mut().zip(v).zip(right).zip(t).zip(t2) {
-        same &= times::<R>(minus(t2, t), r) == minus(v, *u);
         *u = minus(*u, times::<R>(t, r));
+        same &= plus_product::<R>(*u, t2, r) == v;
     }
     same
 }

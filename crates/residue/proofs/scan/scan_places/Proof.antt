@@ -1,21 +1,21 @@
-use mathlib.Core.Path.{_≡_, refl}
+use mathlib.Core.Path.{_≡_, refl, _∙_}
 use mathlib.Core.Bool.{not, _&&_}
 use Prim.Native.Nat.{_-_, _≤_}
 use native.Mathlib.Omega.{arith}
 use borrow.Author.Needs.{needs}
 use lib.Dec.{ltb, eqb}
 use lib.ListN.{take}
-use Rattle.algebra.specs.Tests.{all₂-none, all₂-turn}
+use Rattle.algebra.specs.Tests.{not-or, all₂-none, all₂-turn}
 use Rattle.residue.specs.Residues.{P}
 use Rattle.residue.specs.Scans.{PlacesScanned}
 use Rattle.residue.proofs.scan.scan_places.Statement.{statement}
 use Rattle.residue.proofs.scan.scan_places.Tie as tie
 
 abbrev Inv-loop : tie.InvT-loop
-Inv-loop n s t below₀ apart₀ j₀ below apart j = (j ≤ n) × PlacesScanned (take j s) (take j t) below apart
+Inv-loop n s t high₀ equal₀ j₀ high equal j = (j ≤ n) × PlacesScanned (take j s) (take j t) (not high) (not equal)
 
 abbrev μ-loop : tie.MeasureT-loop
-μ-loop n s t below₀ apart₀ j₀ below apart j = n - j
+μ-loop n s t high₀ equal₀ j₀ high equal j = n - j
 
 loop-holds : tie.Need-loop-holds Inv-loop μ-loop
 loop-holds c = let a = c .before .before .args in (omega arith, record { below-is = all₂-none (λ x y. ltb x P && ltb y P) (a .s .now) (a .t .now); apart-is = all₂-none (λ x y. not (eqb x y)) (a .s .now) (a .t .now) })
@@ -32,8 +32,8 @@ mul-y c = search needs
 shared-slice-read-y : tie.Need-shared-slice-read-y Inv-loop μ-loop
 shared-slice-read-y c = search needs
 
-both-below-requires : tie.Need-both-below-requires Inv-loop μ-loop
-both-below-requires c κs = search needs
+either-high-requires : tie.Need-either-high-requires Inv-loop μ-loop
+either-high-requires c κs = search needs
 
 add-j : tie.Need-add-j Inv-loop μ-loop
 add-j c = search needs
@@ -48,8 +48,8 @@ loop-again c =
     let scanned = l .inv .1 in (
       omega arith,
       record {
-        below-is = all₂-turn (λ x y. ltb x P && ltb y P) (l .j) (a .s .now) (a .t .now) 0 (omega arith) (omega arith) (scanned .below-is) (c .both-below .ensures);
-        apart-is = all₂-turn (λ x y. not (eqb x y)) (l .j) (a .s .now) (a .t .now) 0 (omega arith) (omega arith) (scanned .apart-is) refl;
+        below-is = not-or (l .high) _ ∙ all₂-turn (λ x y. ltb x P && ltb y P) (l .j) (a .s .now) (a .t .now) 0 (omega arith) (omega arith) (scanned .below-is) (c .either-high .ensures);
+        apart-is = not-or (l .equal) _ ∙ all₂-turn (λ x y. not (eqb x y)) (l .j) (a .s .now) (a .t .now) 0 (omega arith) (omega arith) (scanned .apart-is) refl;
       },
     )
 
@@ -71,7 +71,7 @@ scan-places-spec =
     shared-slice-read-x
     mul-y
     shared-slice-read-y
-    both-below-requires
+    either-high-requires
     add-j
     loop-less
     loop-again
