@@ -1,20 +1,28 @@
 //! Times the static library against plain Rust and prints the tables as one Markdown document.
 //!
 //! `--quick` takes few samples, to see that everything runs and that both sides write the same
-//! words. `--depths 10,14,16` names the depths, each 1 to 16.
+//! words. `--depths 10,14,16` names the depths, each 1 to 16; `--rate 8` the rate, 2 to 16.
 
 mod report;
 
 use report::measure::Plan;
+use std::ops::RangeInclusive;
 use std::process::ExitCode;
 use tvarchula_bench::MAX_DEPTH;
 
-const USAGE: &str = "usage: tvarchula-bench [--quick] [--depths 10,14,16]";
+const USAGE: &str = "usage: tvarchula-bench [--quick] [--rate 8] [--depths 10,14,16]";
+
+/// What is measured, and where.
+struct Options {
+    plan: Plan,
+    rate: usize,
+    depths: Vec<usize>,
+}
 
 fn main() -> ExitCode {
     match options(std::env::args().skip(1)) {
-        Some((plan, depths)) => {
-            report::print(plan, &depths);
+        Some(options) => {
+            report::print(options.plan, options.rate, &options.depths);
             ExitCode::SUCCESS
         }
         None => {
@@ -24,20 +32,30 @@ fn main() -> ExitCode {
     }
 }
 
-fn options(mut arguments: impl Iterator<Item = String>) -> Option<(Plan, Vec<usize>)> {
-    let (mut plan, mut depths) = (Plan::FULL, vec![10, 14, 16]);
+fn options(mut arguments: impl Iterator<Item = String>) -> Option<Options> {
+    let mut options = Options {
+        plan: Plan::FULL,
+        rate: 8,
+        depths: vec![10, 14, 16],
+    };
     while let Some(argument) = arguments.next() {
         match argument.as_str() {
-            "--quick" => plan = Plan::QUICK,
-            "--depths" => depths = parsed(&arguments.next()?)?,
+            "--quick" => options.plan = Plan::QUICK,
+            "--rate" => options.rate = parsed(&arguments.next()?, 2..=16)?,
+            "--depths" => {
+                let depth = |text| parsed(text, 1..=MAX_DEPTH as usize);
+                options.depths = arguments
+                    .next()?
+                    .split(',')
+                    .map(depth)
+                    .collect::<Option<_>>()?;
+            }
             _ => return None,
         }
     }
-    Some((plan, depths))
+    Some(options)
 }
 
-fn parsed(list: &str) -> Option<Vec<usize>> {
-    let legal = 1..=MAX_DEPTH as usize;
-    let depth = |text: &str| text.parse().ok().filter(|depth| legal.contains(depth));
-    list.split(',').map(depth).collect()
+fn parsed(text: &str, legal: RangeInclusive<usize>) -> Option<usize> {
+    text.parse().ok().filter(|number| legal.contains(number))
 }

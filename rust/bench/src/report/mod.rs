@@ -15,9 +15,6 @@ use table::Table;
 use times::{Case, Times, CASES, FOLD_ONE_CHAIN};
 use tvarchula_bench::{Buffers, Inputs, Sizes};
 
-/// The rate of all measurements.
-const RATE: usize = 8;
-
 /// The sides, in the order in which they are measured.
 const NAMES: [&str; 4] = ["library", "plain", "plain %", "before"];
 
@@ -35,9 +32,9 @@ Nanoseconds for each word of the block, by the least times; for tables and evalu
 writing and the tables make one pass for each level, so that theirs grow with the depth.";
 const MEMORY: &str = "Bytes of the slices lent to one call. The library allocates nothing.";
 
-/// Measures everything and prints one document.
-pub fn print(plan: Plan, depths: &[usize]) {
-    let draw = |&depth: &usize| Inputs::drawn(Sizes { depth, rate: RATE }, 0);
+/// Measures everything at one rate and prints one document.
+pub fn print(plan: Plan, rate: usize, depths: &[usize]) {
+    let draw = |&depth: &usize| Inputs::drawn(Sizes { depth, rate }, 0);
     let mut lent: Vec<Inputs> = depths.iter().map(draw).collect();
     let mut times = CASES.map(|_| vec![Times::new(); depths.len()]);
     let mut scans = vec![Scans::new(); depths.len()];
@@ -51,7 +48,7 @@ pub fn print(plan: Plan, depths: &[usize]) {
     }
     let samples = plan.rounds * plan.samples;
     println!(
-        "{} {samples} samples in {} rounds.\n",
+        "{} Rate {rate}. {samples} samples in {} rounds.\n",
         machine::line(),
         plan.rounds
     );
