@@ -1,5 +1,6 @@
-/* How much stack the functions take: each one runs at depth 16 and rate 16 on a painted stack of its own. Prints the bytes that were
- * touched beyond those of a call that does nothing, and exits with 1 when some function takes LIMIT or more, or does not answer 0. */
+/* How much stack the functions take: each one runs at depth 16, and at rate 16 or the one that -DRATE= names, on a painted stack of its
+ * own. Prints the bytes that were touched beyond those of a call that does nothing, and exits with 1 when some function takes LIMIT or
+ * more, or does not answer 0. */
 #define _DEFAULT_SOURCE
 #include <stdio.h>
 #include <stdlib.h>
@@ -8,7 +9,11 @@
 
 #include "tvarchula.h"
 
-enum { DEPTH = 16, RATE = 16, STACK = 1 << 18, PAINT = 0xa5, LIMIT = 4096 };
+#ifndef RATE
+#define RATE 16
+#endif
+
+enum { DEPTH = 16, STACK = 1 << 18, PAINT = 0xa5, LIMIT = 4096 };
 
 #define MESSAGE TV_MESSAGE_LEN(DEPTH)
 #define BLOCK TV_BLOCK_LEN(DEPTH, RATE)
@@ -66,10 +71,12 @@ int main(void)
         t[i] = (uint32_t)i, t2[i] = (uint32_t)i + 1;
     for (size_t i = 0; i < MESSAGE; i++)
         table[i] = (int32_t)i;
+    for (uint32_t i = 0; i < RATE; i++)
+        g[i] = i + 1;
     for (uint32_t i = 0; i < DEPTH; i++)
-        g[i] = z[i] = r[i] = i + 1;
+        z[i] = r[i] = i + 1;
     for (uint32_t i = 0; i < TV_MAX_QUERIES; i++)
-        queries[i] = i * 2047;
+        queries[i] = i * 2047 % HALF;
     static const struct {
         const char *name;
         void (*call)(void);

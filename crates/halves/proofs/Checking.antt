@@ -99,11 +99,39 @@ module _ (d i m : ℕ) (g t t' w : List ℕ) (e : suc i ≡ d) (𝓒 : CheckLent
     same-is : sameRest (suc i) m g t t' w ≡ sameRest d m g t t' w
     same-is = ap (λ k. sameRest k m g t t' w) e
 
-    pub check-fails : not ok ≡ true → Checked d m g t t' w false w'
-    check-fails h = record { answer = stops {r = ok} {a = ok} (sameRest i m g t t' w') refl h ∙ sym (𝓢 .answer) ∙ same-is; kept = 𝓢 .kept }
+    check-false : not ok ≡ true → false ≡ sameRest d m g t t' w
+    check-false h = stops {r = ok} {a = ok} (sameRest i m g t t' w') refl h ∙ sym (𝓢 .answer) ∙ same-is
 
-    pub check-goes : (r : Bool) (out : List ℕ) → not ok ≡ false → Checked i m g t t' w' r out → Checked d m g t t' w r out
-    check-goes r out h 𝓒' = record { answer = goes {r = ok} {a = ok} refl h (𝓒' .answer) ∙ sym (𝓢 .answer) ∙ same-is; kept = 𝓒' .kept ∙ 𝓢 .kept }
+    check-same : not ok ≡ false → sameRest d m g t t' w ≡ sameRest i m g t t' w'
+    check-same h = sym (goes {r = ok} {a = ok} refl h refl ∙ sym (𝓢 .answer) ∙ same-is)
+
+-- what is known at level j, where w₀ was at level d
+pub record AtLevel (d j m : ℕ) (g t t' w₀ w : List ℕ) : Type 0 where
+  pub lent : CheckLent j m g t t' w
+  pub size : length w ≡ length w₀
+  pub same : sameRest d m g t t' w₀ ≡ sameRest j m g t t' w
+  pub kept : take m w ≡ take m w₀
+
+pub at-first : (d m : ℕ) (g t t' w : List ℕ) → CheckLent d m g t t' w → AtLevel d d m g t t' w w
+at-first d m g t t' w 𝓒 = record { lent = 𝓒; size = refl; same = refl; kept = refl }
+
+module _ (d j m : ℕ) (g t t' w₀ w : List ℕ) (𝓐 : AtLevel d j m g t t' w₀ w) where
+  -- a step to the level below
+  module _ (i : ℕ) (e : suc i ≡ j) (ok : Bool) (w' : List ℕ) (l : length w' ≡ length w) (𝓢 : Stepped i m g t t' (sameRest (suc i) m g t t' w) w ok w') where
+    pub at-fails : not ok ≡ true → Checked d m g t t' w₀ false w'
+    at-fails h = record { answer = check-false j i m g t t' w e (𝓐 .lent) ok w' l 𝓢 h ∙ sym (𝓐 .same); kept = 𝓢 .kept ∙ 𝓐 .kept }
+
+    pub at-next : not ok ≡ false → AtLevel d i m g t t' w₀ w'
+    at-next h =
+        record {
+          lent = check-next j i m g t t' w e (𝓐 .lent) ok w' l 𝓢;
+          size = l ∙ 𝓐 .size;
+          same = 𝓐 .same ∙ check-same j i m g t t' w e (𝓐 .lent) ok w' l 𝓢 h;
+          kept = 𝓢 .kept ∙ 𝓐 .kept;
+        }
+
+  pub at-last : (z : j ≡ 0) (a : Residue) → a .0 ≡ getD w 0 0 → (r : Bool) → r ≡ wordSame (elem a) g (take (m + length g - m) (drop m w)) → Checked d m g t t' w₀ r w
+  at-last z a q r e = record { answer = rest-checked j m g t t' w (𝓐 .lent) z a q r e .answer ∙ sym (𝓐 .same); kept = 𝓐 .kept }
 
 -- the lent block
 module _ (d : ℕ) (g t t' b w : List ℕ) (𝓘 : CompareInput d g t t' b w) where

@@ -81,20 +81,21 @@ fn step(low: u32, m: usize, g: &[u32], t: &[u32], t2: &[u32], work: &mut [u32]) 
     peel::peel_front(&t[off..end], &t2[off..end], &mut work[m..e])
 }
 
-// Whether the block of a level that begins at m is the codeword of the message of that level in front.
+// Whether the block of a level that begins at m is the codeword of the message of that level in front. A loop, since a call of itself at each level would take
+// too much stack.
 fn check(level: u32, m: usize, g: &[u32], t: &[u32], t2: &[u32], work: &mut [u32]) -> bool
     requires { ⌜ CheckLent level m (now g) (now t) (now t2) (now work) ⌝ }
     ensures { λ r. ⌜ Checked level m (now (g .entry)) (now (t .entry)) (now (t2 .entry)) (now (work .entry)) r (now (work .exit)) ⌝ }
 {
-    if level == 0 {
-        let e = m + g.len();
-        return word_same(Residue::new(work[0]), g, &work[m..e]);
+    let mut i = level;
+    while i > 0 {
+        i -= 1;
+        if !step(i, m, g, t, t2, work) {
+            return false;
+        }
     }
-    let low = level - 1;
-    if !step(low, m, g, t, t2, work) {
-        return false;
-    }
-    check(low, m, g, t, t2, work)
+    let e = m + g.len();
+    word_same(Residue::new(work[0]), g, &work[m..e])
 }
 
 pub fn same_codeword(
