@@ -69,9 +69,13 @@ fn blocks(c: &mut Comparison, count: usize, rng: &mut Rng) -> Swept {
         (1, 2),
         (1, 3),
         (2, 2),
+        (2, 4),
         (3, 2),
         (3, 5),
+        (3, 8),
         (4, 3),
+        (5, 4),
+        (6, 2),
     ] {
         let call = good(c, Job::Decode, Shape::any(depth, rate, rng), rng)?;
         for j in 0..call.lent.words(Input::Block).len() {
@@ -85,7 +89,7 @@ fn blocks(c: &mut Comparison, count: usize, rng: &mut Rng) -> Swept {
         }
     }
     for _ in 0..count {
-        let (depth, rate) = (rng.below(4), 2 + rng.below(3));
+        let (depth, rate) = (rng.below(4), 2 + rng.below(5));
         // Any block: mostly none is a codeword, with small words some are.
         let call = calls::formed(Job::Decode, Shape::any(depth, rate, rng), rng);
         c.check(&call)?;
