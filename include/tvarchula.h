@@ -1,7 +1,7 @@
 /* Tvarchula: a BaseFold commitment over the integers modulo 2147483647.
  *
  * One function for each job, over the static library libtvarchula.a. The archive is for x86-64 with SSE2. It wants memset and nothing
- * else, has no data of its own, and takes less than 3 KiB of stack at depth 16 and rate 16, where c/stack.c measures it: count on 4 KiB.
+ * else, has no data of its own, and takes less than 3.5 KiB of stack at depth 16, where c/stack.c measures it: count on 4 KiB.
  *
  * Every function answers on any input and keeps no state: any number of threads may call it at once. All memory is lent by the caller;
  * the library allocates nothing and keeps no pointer.
