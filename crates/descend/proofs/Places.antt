@@ -1,7 +1,7 @@
 -- The block of level i + 1, with the block of level i behind it, as one part of the opening. Assumes nothing.
 use mathlib.Core.Path.{_≡_, sym, ap, ap₂, _∙_}
 use mathlib.Core.List.{List, _++_, append-assoc}
-use Prim.Native.Nat.{ℕ, suc, _+_, _*_, _-_, _^_, _<_, _≤_}
+use Prim.Native.Nat.{ℕ, suc, _+_, _*_, _-_, _<_, _≤_}
 use native.Mathlib.Nat.{mul-one}
 use native.Mathlib.Numerals.{add-one}
 use native.Mathlib.Omega.{arith}
@@ -11,13 +11,12 @@ use lib.Seq.{drop-drop, take-take, take-add}
 use borrow.Rule.Slice.PartMut.{putMid}
 use Rattle.algebra.specs.Lists.{put, differ-at}
 use Rattle.algebra.specs.Words.{𝔽₁}
-use Rattle.algebra.specs.WordLists.{Low, low-take, low-drop, elements, getD-elements, length-elements}
+use Rattle.algebra.specs.WordLists.{low-take, low-drop, elements, getD-elements, length-elements}
 use Rattle.basefold.specs.Layout.{blockAt}
 use Rattle.foldable.specs.Encode.{double}
-use Rattle.inversion.specs.Inversion.{Diagonals}
 use Rattle.job.specs.Limits.{blockSize, diagonalsSize}
 use Rattle.layout.specs.LayoutLaws.{block-end, block-within}
-use Rattle.parameters.specs.Lent.{diagonal, Coding}
+use Rattle.parameters.specs.Lent.{diagonal}
 use Rattle.parameters.specs.LentLaws.{level-within, length-diagonal}
 use Rattle.residue.specs.Residues.{P, K, el}
 use Rattle.fold.specs.Behind.{FoldBehindLent, foldedBehind}

@@ -20,7 +20,7 @@ use Rattle.multilinear.specs.Folding.{foldMessage}
 use Rattle.parameters.specs.Lent.{lent, diagonal, codeword}
 use Rattle.residue.specs.declared.Residue.{Residue}
 use Rattle.residue.specs.Residues.{F, K, el}
-use Rattle.steps.specs.Steps.{leftOf, sentWords, TakeChallengeResult, GiveBlockInput}
+use Rattle.steps.specs.Steps.{leftOf, sentWords, TakeChallengeResult}
 use Rattle.steps.specs.StepLaws.{length-leftOf, front-is}
 use Rattle.open.specs.Rounds.{Follows, BlockInput, RoundInput, RoundResult}
 use Rattle.open.proofs.Agreement.{drop-put}

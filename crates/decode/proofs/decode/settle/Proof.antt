@@ -2,7 +2,7 @@ use Rattle.decode.proofs.Deciding.{found, not-found, front-within}
 use Rattle.algebra.specs.Flags.{passes, fails}
 use lib.ListN.{take, replicate}
 use native.Mathlib.Omega.{arith}
-use mathlib.Core.Path.{sym, ap, _∙_}
+use mathlib.Core.Path.{ap, _∙_}
 use borrow.Author.Needs.{needs}
 use Rattle.decode.proofs.decode.settle.Statement.{statement}
 use Rattle.decode.proofs.decode.settle.Tie as tie
