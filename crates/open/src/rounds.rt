@@ -10,7 +10,7 @@ ghost use Rattle.open.specs.Rounds.{BlockInput, RoundInput, RoundResult}
 ghost use Rattle.open.specs.Writing.{openingWords, WriteInput};
 use residue::Residue;
 
-// The blocks below this level are so short that encoding takes less time than the one inversion of a fold.
+// The blocks below this level are so short that encoding takes less time than a fold with its one inversion.
 const FOLDED_FROM: u32 = 6;
 
 // Whether the block of level i is made from the block above it, which has to lie in the opening.

@@ -9,8 +9,8 @@ use super::residue::{minus, plus_product, times, Reduce};
 use crate::answer::{Code, Refusal};
 use crate::sizes::Sizes;
 
-/// The blocks below this level are so short that encoding takes less time than the one inversion of
-/// a fold.
+/// The blocks below this level are so short that encoding takes less time than a fold with its one
+/// inversion.
 const FOLDED_FROM: usize = 6;
 
 /// Writes the opening of the message at `z` under the challenges `r`. The polynomial's value at `z`
