@@ -11,7 +11,7 @@ use Rattle.residue.specs.declared.Residue.{Residue}
 use Rattle.residue.specs.declared.Parsed.the-variants.{Residue as Is, TooLarge}
 use Rattle.residue.specs.Residues.{P, parsed, parsedBy}
 use Rattle.clearance.specs.Clearances.{border, meaning, free, overlap}
-use Rattle.clearance.specs.ClearanceLaws.{clearance-free, clearance-overlap}
+use Rattle.clearance.specs.ClearanceLaws.{clearance-pos, clearance-negsuc}
 use Rattle.clearance.specs.Reading.{reading}
 
 pub no-residue : (w : ℕ) → TooLarge ≡ parsed w → refused 4 ≡ reading w
@@ -34,7 +34,7 @@ a-residue w r e = go (ltb w P) refl e
     go false p q = absurd (let z : _≡_ {A = ℕ} 0 1 = cc in omega arith)
 
 pub reads-free : (w : ℕ) → w < border → done (free w) ≡ reading w
-reads-free w h = pass 4 (lt-ltb w P (omega arith)) (sym (ap (λ x. done (meaning x)) (clearance-free w h)))
+reads-free w h = pass 4 (lt-ltb w P (omega arith)) (sym (ap (λ x. done (meaning x)) (clearance-pos w h)))
 
 pub reads-overlap : (w : ℕ) → border ≤ w → w < P → done (overlap (P - w)) ≡ reading w
 reads-overlap w h l = go (P - w) refl
@@ -43,4 +43,4 @@ reads-overlap w h l = go (P - w) refl
     go zero e = absurd (omega arith)
     go (suc n) e =
         ap (λ k. done (overlap k)) e
-        ∙ pass 4 (lt-ltb w P l) (sym (ap (λ x. done (meaning x)) (clearance-overlap w n h e)))
+        ∙ pass 4 (lt-ltb w P l) (sym (ap (λ x. done (meaning x)) (clearance-negsuc w n h e)))

@@ -3,7 +3,7 @@ use mathlib.Core.Path.{ap, _∙_}
 use native.Mathlib.Omega.{arith}
 use borrow.Author.Needs.{needs}
 use Rattle.clearance.specs.Clearances.{clearanceOf}
-use Rattle.clearance.proofs.Signs.{Overlapping, overlapping, free-read}
+use Rattle.clearance.proofs.Signs.{Overlapping, overlapping, not-overlapping}
 use Rattle.clearance.proofs.clearance.to_clearance.Statement.{statement}
 use Rattle.clearance.proofs.clearance.to_clearance.Tie as tie
 
@@ -29,7 +29,7 @@ sub-result-2 : tie.Need-sub-result-2
 sub-result-2 c = over c .fits
 
 returns : tie.Need-returns
-returns c = let w = c .before .before .word in free-read (w .result) (omega arith) ∙ ap clearanceOf (w .ensures)
+returns c = let w = c .before .before .word in not-overlapping (w .result) (omega arith) ∙ ap clearanceOf (w .ensures)
 
 returns-2 : tie.Need-returns-2
 returns-2 c = over c .is ∙ ap clearanceOf (c .before .before .word .ensures)
