@@ -31,7 +31,12 @@ int main(void)
     tv_reading reading = tv_read_clearance(value);
     if (reading.number != TV_DONE)
         return 1;
-    printf("entry 1 accepted: %s %u\n", reading.kind == TV_FREE ? "free" : "overlap", (unsigned)reading.amount);
+    switch (reading.kind) { /* Only TV_FREE may be passed. */
+    case TV_FREE: printf("entry 1 accepted: free by %u\n", (unsigned)reading.amount); break;
+    case TV_CONTACT: printf("entry 1 accepted: contact, must not be passed\n"); break;
+    case TV_OVERLAP: printf("entry 1 accepted: overlap of %u, must not be passed\n", (unsigned)reading.amount); break;
+    default: return 1;
+    }
 
     /* The other entry's clearance instead. */
     verdict = tv_verify_opening(DEPTH, RATE, g, 2, t, 2, t2, 2, block, 4, z, 1, 1250, r, 1, queries, 2, opening, 6);

@@ -201,7 +201,8 @@ static void verify(const char *what, code c, list block, list z, uint32_t y, lis
 
 static void clearances(void)
 {
-    reading("residue 0 is free by 0", 0, 0, TV_FREE, 0);
+    reading("residue 0 is contact", 0, 0, TV_CONTACT, 0);
+    reading("residue 1 is free by 1", 1, 0, TV_FREE, 1);
     reading("residue 1073741823 is free by as much", 1073741823, 0, TV_FREE, TV_MAX_CLEARANCE);
     reading("residue 1073741824 is an overlap of 1073741823", 1073741824, 0, TV_OVERLAP, TV_MAX_CLEARANCE);
     reading("residue 2147483646 is an overlap of 1", P - 1, 0, TV_OVERLAP, 1);

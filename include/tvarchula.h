@@ -25,9 +25,9 @@
  * when declarations and answers stay, MINOR when some are added, MAJOR when one changes or goes. As long as MAJOR is 0, MINOR moves for
  * changes too. A program and its archive have MAJOR and MINOR in common. */
 #define TV_VERSION_MAJOR 0
-#define TV_VERSION_MINOR 1
+#define TV_VERSION_MINOR 2
 #define TV_VERSION_PATCH 0
-#define TV_VERSION "0.1.0"
+#define TV_VERSION "0.2.0"
 
 /* Limits. */
 #define TV_MODULUS 2147483647u
@@ -57,9 +57,10 @@
 #define TV_FAILED_BASE 22u         /* verifying: base check j fails; first is j */
 #define TV_FAILED_FOLD 23u         /* verifying: a fold check fails; first is the query's position from 0, second the level */
 
-/* What a reading is. */
-#define TV_FREE 1u
-#define TV_OVERLAP 2u
+/* What a reading is. Only TV_FREE may be passed: stop at every other kind, at one that is not listed here too. */
+#define TV_FREE 1u                 /* above zero; amount is the distance */
+#define TV_OVERLAP 2u              /* below zero; amount is by how much, above zero */
+#define TV_CONTACT 3u              /* zero: the parcels touch; amount is 0 */
 
 /* Words of a message, of a block of a level, of each of t and t2, and of an opening. Depth, level and rate must be legal. */
 #ifdef __cplusplus
@@ -90,7 +91,7 @@ typedef struct {
     uint32_t number, first, second;
 } tv_answer;
 
-/* kind is TV_FREE or TV_OVERLAP, amount is in micrometres; both are 0 when refused. */
+/* kind is TV_FREE, TV_OVERLAP or TV_CONTACT, amount is in micrometres; both are 0 when refused. */
 typedef struct {
     uint32_t number, kind, amount;
 } tv_reading;
@@ -98,7 +99,7 @@ typedef struct {
 /* In what follows a length in words stands behind each slice: m is TV_MESSAGE_LEN(depth), n is TV_BLOCK_LEN(depth, rate), and l is
  * TV_DIAGONALS_LEN(depth, rate). Level i of t and t2 begins at TV_DIAGONALS_LEN(i, rate) and has TV_BLOCK_LEN(i, rate) words. */
 
-/* Reads a word as a clearance. Answers 0 or 4. */
+/* Reads a word as a clearance. Answers 0 or 4. Of the kinds only TV_FREE may be passed. */
 TV_MUST_USE tv_reading tv_read_clearance(uint32_t word);
 
 /* Reads clearances (a power of two, up to TV_MAX_TABLE_LEN). Writes message (as many). */

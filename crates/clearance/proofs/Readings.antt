@@ -1,4 +1,4 @@
--- The three ways that reading a word ends. Assumes nothing.
+-- The four ways that reading a word ends. Assumes nothing.
 use mathlib.Core.Path.{_≡_, refl, sym, ap, _∙_}
 use mathlib.Core.Bool.{Bool, true, false}
 use Prim.Native.Nat.{ℕ, zero, suc, _-_, _<_, _≤_}
@@ -10,7 +10,7 @@ use Rattle.job.specs.OutcomeLaws.{stop, pass}
 use Rattle.residue.specs.declared.Residue.{Residue}
 use Rattle.residue.specs.declared.Parsed.the-variants.{Residue as Is, TooLarge}
 use Rattle.residue.specs.Residues.{P, parsed, parsedBy}
-use Rattle.clearance.specs.Clearances.{border, meaning, free, overlap}
+use Rattle.clearance.specs.Clearances.{border, meaning, free, contact, overlap}
 use Rattle.clearance.specs.ClearanceLaws.{clearance-pos, clearance-negsuc}
 use Rattle.clearance.specs.Reading.{reading}
 
@@ -33,8 +33,12 @@ a-residue w r e = go (ltb w P) refl e
     go true p q = let s : r ≡ record { 0 = w } = cc in record { is = ap (λ x. x .0) s; low = ltb-true w P p }
     go false p q = absurd (let z : _≡_ {A = ℕ} 0 1 = cc in omega arith)
 
-pub reads-free : (w : ℕ) → w < border → done (free w) ≡ reading w
-reads-free w h = pass 4 (lt-ltb w P (omega arith)) (sym (ap (λ x. done (meaning x)) (clearance-pos w h)))
+pub reads-contact : (w : ℕ) → w ≡ 0 → done contact ≡ reading w
+reads-contact w e = ap reading (sym e)
+
+pub reads-free : (w : ℕ) → 0 < w → w < border → done (free w) ≡ reading w
+reads-free zero l h = absurd (omega arith)
+reads-free (suc n) l h = pass 4 (lt-ltb (suc n) P (omega arith)) (sym (ap (λ x. done (meaning x)) (clearance-pos (suc n) h)))
 
 pub reads-overlap : (w : ℕ) → border ≤ w → w < P → done (overlap (P - w)) ≡ reading w
 reads-overlap w h l = go (P - w) refl

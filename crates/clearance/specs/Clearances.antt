@@ -1,6 +1,6 @@
 -- Clearances in micrometres, the residues that stand for them, and what a clearance means. Definitions only. Assumes nothing.
 use mathlib.Core.Bool.{Bool, _&&_, cond}
-use Prim.Native.Nat.{ℕ, suc, _-_}
+use Prim.Native.Nat.{ℕ, zero, suc, _-_}
 use lib.Dec.{ltb}
 use lib.IntN.{ℤ, pos, negsuc, negℤ}
 use lib.Signed.{leZ}
@@ -26,11 +26,13 @@ residueOf (negsuc n) = P - suc n
 abbrev pub clearanceOf : ℕ → ℤ
 clearanceOf w = cond (ltb w border) (pos w) (negℤ (pos (P - w)))
 
--- free with a distance, or an overlap with its positive amount
+-- free with its distance, in contact, or an overlap with its positive amount
 pub data Meaning : Type 0 where
   free : ℕ → Meaning
+  contact : Meaning
   overlap : ℕ → Meaning
 
 abbrev pub meaning : ℤ → Meaning
-meaning (pos n) = free n
+meaning (pos zero) = contact
+meaning (pos (suc n)) = free (suc n)
 meaning (negsuc n) = overlap (suc n)

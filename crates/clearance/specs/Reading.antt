@@ -3,9 +3,9 @@ use Prim.Native.Nat.{ℕ}
 use lib.Dec.{ltb}
 use Rattle.job.specs.Outcome.{Outcome, refused, done, require, _⨾_, number}
 use Rattle.residue.specs.Residues.{P}
-use Rattle.clearance.specs.Clearances.{clearanceOf, Meaning, free, overlap, meaning}
+use Rattle.clearance.specs.Clearances.{clearanceOf, Meaning, free, contact, overlap, meaning}
 use Rattle.clearance.specs.declared.reading.Reading.{Reading}
-use Rattle.clearance.specs.declared.reading.Reading.the-variants.{Free, Overlap, Refused}
+use Rattle.clearance.specs.declared.reading.Reading.the-variants.{Free, Contact, Overlap, Refused}
 
 -- refusal 4 for a word that is no residue, else what the clearance means
 abbrev pub reading : ℕ → Outcome Meaning
@@ -14,5 +14,6 @@ reading w = require (ltb w P) 4 ⨾ done (meaning (clearanceOf w))
 -- what each case of the answer says
 abbrev pub readingOutcome : Reading → Outcome Meaning
 readingOutcome (Free n) = done (free n)
+readingOutcome Contact = done contact
 readingOutcome (Overlap n) = done (overlap n)
 readingOutcome (Refused r) = refused (number r)

@@ -5,8 +5,10 @@ use job::Refusal;
 use residue::Parsed;
 use residue::Residue;
 
+// Contact has no distance: a parcel that touches must not be passed.
 pub enum Reading {
     Free(u32),
+    Contact,
     Overlap(u32),
     Refused(Refusal),
 }
@@ -19,7 +21,9 @@ pub fn read_clearance(word: u32) -> Reading
         Parsed::TooLarge => return Reading::Refused(Refusal::Word),
     };
     let w = r.word();
-    if w < Residue::HALF.word() {
+    if w == 0 {
+        Reading::Contact
+    } else if w < Residue::HALF.word() {
         Reading::Free(w)
     } else {
         Reading::Overlap(Residue::MODULUS - w)

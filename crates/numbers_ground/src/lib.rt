@@ -8,6 +8,10 @@ use table::to_table;
 fn meaning(r: Reading) {
     match r {
         Reading::Free(n) => print::line(b": free", n),
+        Reading::Contact => {
+            print::label(b": contact");
+            print::end();
+        }
         Reading::Overlap(n) => print::line(b": overlap", n),
         Reading::Refused(r) => print::line(b": refused", job::number(r)),
     }
@@ -21,6 +25,7 @@ fn read(word: u32) {
 
 pub fn readings() {
     read(0);
+    read(1);
     read(1073741823);
     read(1073741824);
     read(2147483646);

@@ -13,7 +13,7 @@ use Rattle.open.specs.declared.Written.{Written}
 use Rattle.verdict.specs.Verdicts.{Numbers}
 use Rattle.polynomial.specs.Evaluation.{evaluationOutcome as evaluated, evaluation}
 use Rattle.polynomial.specs.declared.Evaluation.{Evaluation}
-use Rattle.clearance.specs.Clearances.{Meaning, free, overlap}
+use Rattle.clearance.specs.Clearances.{Meaning, free, contact, overlap}
 use Rattle.table.specs.Jobs.{ToCoefficients, ToTable}
 use Rattle.tvarchula.specs.declared.answer.Reply.{Reply}
 use Rattle.tvarchula.specs.declared.ground.ReadingReply.{ReadingReply}
@@ -35,6 +35,7 @@ given (done v) old = v
 abbrev pub readingReply : Outcome Meaning → ReadingReply
 readingReply (refused n) = record { number = n; kind = 0; amount = 0 }
 readingReply (done (free n)) = record { number = 0; kind = 1; amount = n }
+readingReply (done contact) = record { number = 0; kind = 3; amount = 0 }
 readingReply (done (overlap n)) = record { number = 0; kind = 2; amount = n }
 
 -- a call of a job: the reply tells some answer, and with that answer the job's own contract holds

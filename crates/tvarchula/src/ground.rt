@@ -7,7 +7,7 @@ use crate::answer::Reply;
 use clearance::reading::Reading;
 use polynomial::Evaluation;
 
-// kind is 1 for free, 2 for an overlap; kind and amount are 0 where the word is refused.
+// kind is 1 for free, 2 for an overlap, 3 for contact, whose amount is 0; kind and amount are 0 where the word is refused.
 #[repr(C)]
 pub struct ReadingReply {
     pub number: u32,
@@ -25,6 +25,11 @@ pub extern "C" fn tv_read_clearance(word: u32) -> ReadingReply
             number: 0,
             kind: 1,
             amount: n,
+        },
+        Reading::Contact => ReadingReply {
+            number: 0,
+            kind: 3,
+            amount: 0,
         },
         Reading::Overlap(n) => ReadingReply {
             number: 0,

@@ -38,9 +38,9 @@ impl fmt::Display for Answer {
 pub struct Reading {
     /// 0, or 4 when the word is no residue.
     pub number: u32,
-    /// 1 free, 2 overlap; 0 when refused.
+    /// 1 free, 2 overlap, 3 contact; 0 when refused.
     pub kind: u32,
-    /// The distance, or the positive amount of the overlap; 0 when refused.
+    /// The distance, or the positive amount of the overlap; 0 for contact, and when refused.
     pub amount: u32,
 }
 

@@ -1,5 +1,7 @@
 //! Clearances, and reading a word as one.
 
+use core::cmp::Ordering;
+
 use crate::answer::{Reading, Refusal};
 use crate::judge;
 use crate::residue::Residue;
@@ -33,14 +35,19 @@ pub fn from_residue(residue: Residue) -> i32 {
     i32::try_from(x).expect("a clearance")
 }
 
-/// Reading one word: zero or more is free (kind 1), below zero an overlap (kind 2). Refusal 4.
+/// Reading one word: above zero is free (kind 1), below zero an overlap (kind 2), zero contact (kind
+/// 3, with no amount). Refusal 4.
 pub fn read_clearance(word: u32) -> Reading {
     let (number, kind, amount) = match judge::word(word) {
         Err(refusal) => (refusal as u32, 0, 0),
-        Ok(residue) => match from_residue(residue) {
-            x if x >= 0 => (0, 1, x.unsigned_abs()),
-            x => (0, 2, x.unsigned_abs()),
-        },
+        Ok(residue) => {
+            let x = from_residue(residue);
+            match x.cmp(&0) {
+                Ordering::Greater => (0, 1, x.unsigned_abs()),
+                Ordering::Less => (0, 2, x.unsigned_abs()),
+                Ordering::Equal => (0, 3, 0),
+            }
+        }
     };
     Reading {
         number,
@@ -82,7 +89,8 @@ mod tests {
             let r = read_clearance(word);
             (r.number, r.kind, r.amount)
         };
-        assert_eq!(reading(0), (0, 1, 0));
+        assert_eq!(reading(0), (0, 3, 0));
+        assert_eq!(reading(1), (0, 1, 1));
         assert_eq!(reading(1_073_741_823), (0, 1, 1_073_741_823));
         assert_eq!(reading(1_073_741_824), (0, 2, 1_073_741_823));
         assert_eq!(reading(2_147_483_646), (0, 2, 1));

@@ -35,11 +35,17 @@ pub fn ground<J: GroundJobs>() {
     let mut one = [77];
     let done = J::table_to_coefficients(&[-1], &mut one);
     assert_eq!((done, one), (Answer::DONE, [2_147_483_646]));
-    let reading = J::read_clearance(1_073_741_824);
-    assert_eq!(
-        (reading.number, reading.kind, reading.amount),
-        (0, 2, 1_073_741_823)
-    );
+    for (word, due) in [
+        (0, (0, 3, 0)),
+        (1, (0, 1, 1)),
+        (2_147_483_646, (0, 2, 1)),
+        (1_073_741_823, (0, 1, 1_073_741_823)),
+        (1_073_741_824, (0, 2, 1_073_741_823)),
+    ] {
+        let reading = J::read_clearance(word);
+        let got = (reading.number, reading.kind, reading.amount);
+        assert_eq!(got, due, "word {word}");
+    }
     let (mut table, mut work) = ([77], [77]);
     let done = J::coefficients_to_table(&[1_073_741_824], &mut table, &mut work);
     assert_eq!((done, table, work), (Answer::DONE, [-1_073_741_823], [0]));

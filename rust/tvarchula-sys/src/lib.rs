@@ -40,8 +40,8 @@ pub struct tv_answer {
 pub struct tv_reading {
     /// 0 is done.
     pub number: u32,
-    /// [`TV_FREE`] or [`TV_OVERLAP`]; 0 when refused.
+    /// [`TV_FREE`], [`TV_OVERLAP`] or [`TV_CONTACT`]; 0 when refused.
     pub kind: u32,
-    /// In micrometres; 0 when refused.
+    /// In micrometres; 0 for contact, and when refused.
     pub amount: u32,
 }

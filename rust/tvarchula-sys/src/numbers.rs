@@ -15,10 +15,12 @@ pub const TV_MAX_TABLE_LEN: u32 = 65_536;
 /// The largest clearance; the smallest is its negative.
 pub const TV_MAX_CLEARANCE: i32 = 1_073_741_823;
 
-/// A reading's kind: free.
+/// A reading's kind: free, above zero. Only this kind may be passed.
 pub const TV_FREE: u32 = 1;
-/// A reading's kind: an overlap.
+/// A reading's kind: an overlap, below zero.
 pub const TV_OVERLAP: u32 = 2;
+/// A reading's kind: contact, zero.
+pub const TV_CONTACT: u32 = 3;
 
 /// The job is done.
 pub const TV_DONE: u32 = 0;

@@ -1,5 +1,6 @@
-//! A planner commits to the clearances of eight pallet layouts; a cell asks for one of them, checks
-//! the answer against the commitment, and is not taken in by two other answers.
+//! A planner commits to the clearances of eight pallet layouts; a cell asks for three of them, checks
+//! each answer against the commitment, and passes only what is free. It is not taken in by two other
+//! answers.
 //!
 //! `cargo run -p tvarchula --example pallet`
 
@@ -12,8 +13,37 @@ use tvarchula::*;
 const DEPTH: u32 = 3; // 2^3 entries
 const RATE: u32 = 4;
 
-/// How far the nearest parcels are apart in each layout, in micrometres; negative is an overlap.
-const CLEARANCES: [i32; 8] = [1250, 400, 87, 2100, 960, -300, 15, 733];
+/// How far the nearest parcels are apart in each layout, in micrometres: zero is contact, negative is
+/// an overlap.
+const CLEARANCES: [i32; 8] = [1250, 400, 87, 2100, 960, -300, 0, 733];
+
+/// What the cell asks: a layout's corner, with challenges and places that it draws for this question.
+struct Asked {
+    z: Vec<u32>,
+    r: Vec<u32>,
+    queries: Vec<u32>,
+}
+
+impl Asked {
+    fn draw(layout: u32, drawn: &mut Toy) -> Asked {
+        println!("cell     asks for layout {layout}");
+        Asked {
+            z: corner(layout, DEPTH),
+            r: drawn.list(DEPTH as usize, MODULUS),
+            queries: drawn.list(8, block_len(DEPTH - 1, RATE) as u32),
+        }
+    }
+
+    fn question(&self) -> Question<'_> {
+        let (z, r) = (&self.z, &self.r);
+        Question { z, r }
+    }
+
+    fn claim(&self, y: u32) -> Claim<'_> {
+        let (z, r, queries) = (&self.z, &self.r, &self.queries);
+        Claim { z, y, r, queries }
+    }
+}
 
 fn main() -> Result<(), Box<dyn Error>> {
     // The row and the diagonals: both sides make them from one seed.
@@ -26,45 +56,37 @@ fn main() -> Result<(), Box<dyn Error>> {
     println!("planner  clearances in micrometres: {CLEARANCES:?}");
     println!("planner  commits to them in {} words", commitment.len());
 
-    // Cell: asks for a layout. It draws the challenges and the places that it will look at.
-    let layout = 5;
     let mut drawn = Toy(7);
-    let r = drawn.list(DEPTH as usize, MODULUS);
-    let queries = drawn.list(8, block_len(DEPTH - 1, RATE) as u32);
-    println!("cell     asks for layout {layout}");
-
-    // Planner: opens the entry at its corner.
-    let z = corner(layout, DEPTH);
-    let question = Question { z: &z, r: &r };
-    let (opening, value) = write_opening_vec(&code, &message, &question)?;
-    let words = opening.len();
-    println!("planner  claims {value} and sends an opening of {words} words");
-
-    // Cell: reads the value only once the opening is accepted.
-    let verify = |y: u32, opening: &[u32]| {
-        let claim = Claim {
-            z: &z,
-            y,
-            r: &r,
-            queries: &queries,
-        };
-        verify_opening(&code, &commitment, &claim, opening)
+    let mut answer = |layout: u32| -> Result<(Asked, Vec<u32>), Box<dyn Error>> {
+        let asked = Asked::draw(layout, &mut drawn);
+        // Planner: opens the entry at its corner.
+        let (opening, value) = write_opening_vec(&code, &message, &asked.question())?;
+        let words = opening.len();
+        println!("planner  claims {value} and sends an opening of {words} words");
+        // Cell: reads the value only once the opening is accepted, and passes only what is free.
+        verify_opening(&code, &commitment, &asked.claim(value), &opening)?;
+        let reading = read_clearance(value)?;
+        let does = if reading.is_free() { "passes" } else { "stops" };
+        println!("cell     accepted, and {does}: {reading}");
+        Ok((asked, opening))
     };
-    verify(value, &opening)?;
-    let reading = read_clearance(value)?;
-    println!("cell     accepted: layout {layout} has {reading}");
+    answer(7)?;
+    answer(6)?;
+    let (asked, opening) = answer(5)?;
 
     // A planner that claims another entry's clearance.
     let swapped = CLEARANCES[3] as u32;
     println!("planner  claims {swapped} instead, the clearance of layout 3");
-    println!("cell     {}", verify(swapped, &opening).unwrap_err());
+    let verdict = verify_opening(&code, &commitment, &asked.claim(swapped), &opening);
+    println!("cell     {}", verdict.unwrap_err());
 
     // A planner that swaps two entries after the commitment and opens the new table honestly.
     let mut table = CLEARANCES;
     table.swap(3, 5);
     let message = table_to_coefficients_vec(&table)?;
-    let (opening, value) = write_opening_vec(&code, &message, &question)?;
+    let (opening, value) = write_opening_vec(&code, &message, &asked.question())?;
     println!("planner  swaps layouts 3 and 5 and opens that table: {value}");
-    println!("cell     {}", verify(value, &opening).unwrap_err());
+    let verdict = verify_opening(&code, &commitment, &asked.claim(value), &opening);
+    println!("cell     {}", verdict.unwrap_err());
     Ok(())
 }

@@ -4,33 +4,51 @@
 use alloc::{vec, vec::Vec};
 use core::fmt;
 
-use tvarchula_sys::{tv_reading, TV_FREE, TV_OVERLAP};
+use tvarchula_sys::{tv_reading, TV_CONTACT, TV_FREE, TV_OVERLAP};
 
 use crate::raw;
 use crate::refusal::{done, Refusal};
 
-/// What a residue says as a clearance, in micrometres.
+/// What a residue says as a clearance, in micrometres. Only a free one may be passed
+/// ([`is_free`](Reading::is_free)).
 #[derive(Clone, Copy, PartialEq, Eq, Hash, Debug)]
 #[non_exhaustive]
 pub enum Reading {
-    /// Free, with this distance.
+    /// Free, with this distance, which is above zero.
     Free(u32),
-    /// An overlap of this amount.
+    /// Contact: at distance zero the parcels touch, and must not be passed.
+    Contact,
+    /// An overlap of this amount, which is above zero.
     Overlap(u32),
 }
 
 impl Reading {
-    /// The clearance as it stands in a table: negative for an overlap.
+    /// Whether it may be passed: free, and neither contact nor an overlap.
+    ///
+    /// ```
+    /// use tvarchula::Reading;
+    /// assert!(Reading::Free(1).is_free());
+    /// assert!(!Reading::Contact.is_free());
+    /// assert!(!Reading::Overlap(1).is_free());
+    /// ```
+    #[must_use]
+    pub const fn is_free(self) -> bool {
+        matches!(self, Reading::Free(_))
+    }
+
+    /// The clearance as it stands in a table: zero for contact, negative for an overlap.
     ///
     /// ```
     /// use tvarchula::Reading;
     /// assert_eq!(Reading::Free(1250).micrometres(), 1250);
+    /// assert_eq!(Reading::Contact.micrometres(), 0);
     /// assert_eq!(Reading::Overlap(300).micrometres(), -300);
     /// ```
     #[must_use]
     pub const fn micrometres(self) -> i64 {
         match self {
             Reading::Free(distance) => distance as i64,
+            Reading::Contact => 0,
             Reading::Overlap(amount) => -(amount as i64),
         }
     }
@@ -40,7 +58,10 @@ impl fmt::Display for Reading {
     fn fmt(&self, f: &mut fmt::Formatter<'_>) -> fmt::Result {
         match self {
             Reading::Free(distance) => write!(f, "{distance} micrometres free"),
-            Reading::Overlap(amount) => write!(f, "{amount} micrometres of overlap"),
+            Reading::Contact => f.write_str("contact, must not be passed"),
+            Reading::Overlap(amount) => {
+                write!(f, "{amount} micrometres of overlap, must not be passed")
+            }
         }
     }
 }
@@ -54,6 +75,7 @@ impl fmt::Display for Reading {
 /// ```
 /// use tvarchula::{read_clearance, Reading, Refusal, MODULUS};
 /// assert_eq!(read_clearance(1250), Ok(Reading::Free(1250)));
+/// assert_eq!(read_clearance(0), Ok(Reading::Contact));
 /// assert_eq!(read_clearance(MODULUS - 1), Ok(Reading::Overlap(1)));
 /// assert_eq!(read_clearance(MODULUS), Err(Refusal::Word));
 /// ```
@@ -61,13 +83,15 @@ pub fn read_clearance(word: u32) -> Result<Reading, Refusal> {
     reading_of(raw::read_clearance(word))
 }
 
-/// A kind that is not known here is no reading.
+/// A kind that is not known here is no reading, and neither is an amount that its kind cannot have:
+/// "free by 0" is what an archive from before 0.2 says of contact.
 fn reading_of(raw: tv_reading) -> Result<Reading, Refusal> {
     done(raw.number)?;
-    match raw.kind {
-        TV_FREE => Ok(Reading::Free(raw.amount)),
-        TV_OVERLAP => Ok(Reading::Overlap(raw.amount)),
-        kind => Err(Refusal::Unknown { number: 0, kind }),
+    match (raw.kind, raw.amount) {
+        (TV_FREE, 1..) => Ok(Reading::Free(raw.amount)),
+        (TV_CONTACT, 0) => Ok(Reading::Contact),
+        (TV_OVERLAP, 1..) => Ok(Reading::Overlap(raw.amount)),
+        (kind, _) => Err(Refusal::Unknown { number: 0, kind }),
     }
 }
 
@@ -140,19 +164,41 @@ pub fn coefficients_to_table_vec(message: &[u32]) -> Result<Vec<i32>, Refusal> {
 #[cfg(test)]
 mod tests {
     use super::*;
+    use std::string::ToString;
 
     #[test]
-    fn an_unknown_kind_is_no_reading() {
-        let read = |kind| {
+    fn what_no_kind_can_say_is_no_reading() {
+        let read = |kind, amount| {
             reading_of(tv_reading {
                 number: 0,
                 kind,
-                amount: 0,
+                amount,
             })
         };
-        assert_eq!(read(1), Ok(Reading::Free(0)));
-        for kind in [0, 3, u32::MAX] {
-            assert_eq!(read(kind), Err(Refusal::Unknown { number: 0, kind }));
+        assert_eq!(read(1, 1), Ok(Reading::Free(1)));
+        assert_eq!(read(2, 1), Ok(Reading::Overlap(1)));
+        assert_eq!(read(3, 0), Ok(Reading::Contact));
+        for (kind, amount) in [
+            (0, 0),
+            (0, 1),
+            (1, 0),
+            (2, 0),
+            (3, 1),
+            (4, 0),
+            (u32::MAX, 1),
+        ] {
+            let unknown = Refusal::Unknown { number: 0, kind };
+            assert_eq!(read(kind, amount), Err(unknown));
         }
+    }
+
+    #[test]
+    fn words_for_people() {
+        let free = Reading::Free(15).to_string();
+        assert_eq!(free, "15 micrometres free");
+        let contact = Reading::Contact.to_string();
+        assert_eq!(contact, "contact, must not be passed");
+        let overlap = Reading::Overlap(300).to_string();
+        assert_eq!(overlap, "300 micrometres of overlap, must not be passed");
     }
 }

@@ -22,7 +22,9 @@
 //! // The cell draws places, verifies the claimed value and reads it.
 //! let claim = Claim { z: &z, y, r: &r, queries: &[0, 1] };
 //! verify_opening(&code, &commitment, &claim, &opening)?;
-//! assert_eq!(read_clearance(y)?, Reading::Overlap(300));
+//! let reading = read_clearance(y)?;
+//! assert_eq!(reading, Reading::Overlap(300));
+//! assert!(!reading.is_free()); // only what is free may be passed
 //!
 //! // Any other value is an error.
 //! let forged = Claim { y: 1250, ..claim };

@@ -29,9 +29,13 @@ fn clearances_and_tables() {
     let other_length = table_to_coefficients(&[1, 2], &mut [77; 3]);
     assert_eq!(other_length, Err(Refusal::Length));
 
-    let overlap = Reading::Overlap(1_073_741_823);
-    assert_eq!(read_clearance(1_073_741_824), Ok(overlap));
-    assert_eq!(read_clearance(0), Ok(Reading::Free(0)));
+    let farthest = 1_073_741_823;
+    assert_eq!(read_clearance(0), Ok(Reading::Contact));
+    assert_eq!(read_clearance(1), Ok(Reading::Free(1)));
+    assert_eq!(read_clearance(P - 1), Ok(Reading::Overlap(1)));
+    assert_eq!(read_clearance(farthest), Ok(Reading::Free(farthest)));
+    let overlap = Reading::Overlap(farthest);
+    assert_eq!(read_clearance(farthest + 1), Ok(overlap));
     assert_eq!(read_clearance(P), Err(Refusal::Word));
 
     let (mut table, mut work) = ([77; 4], [77; 4]);

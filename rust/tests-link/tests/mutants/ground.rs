@@ -22,24 +22,36 @@ fn reads_p_as_zero(call: &mut Call) -> Answer {
     reading(call, Residue::MODULUS, 0)
 }
 
-fn reads_zero_as_overlap(call: &mut Call) -> Answer {
+fn reads_as(call: &mut Call, word: u32, kind: u32, amount: u32) -> Answer {
     let answer = REFERENCE(call);
-    if call.job == Job::ReadClearance && answer.number == 0 && answer.second == 0 {
-        return Answer { first: 2, ..answer };
-    }
-    answer
-}
-
-fn reads_the_half_as_free(call: &mut Call) -> Answer {
-    let answer = REFERENCE(call);
-    if call.job == Job::ReadClearance && call.lent.single(Input::Word) == 1_073_741_824 {
+    if call.job == Job::ReadClearance && call.lent.single(Input::Word) == word {
         return Answer {
-            first: 1,
-            second: 1_073_741_824,
+            first: kind,
+            second: amount,
             ..answer
         };
     }
     answer
+}
+
+fn reads_zero_as_free(call: &mut Call) -> Answer {
+    reads_as(call, 0, 1, 0)
+}
+
+fn reads_zero_as_overlap(call: &mut Call) -> Answer {
+    reads_as(call, 0, 2, 0)
+}
+
+fn reads_one_as_contact(call: &mut Call) -> Answer {
+    reads_as(call, 1, 3, 0)
+}
+
+fn reads_minus_one_as_contact(call: &mut Call) -> Answer {
+    reads_as(call, Residue::MODULUS - 1, 3, 0)
+}
+
+fn reads_the_half_as_free(call: &mut Call) -> Answer {
+    reads_as(call, 1_073_741_824, 1, 1_073_741_824)
 }
 
 fn changes_clearances(call: &mut Call, from: i32, to: i32) -> Answer {
@@ -157,9 +169,12 @@ fn judges_lengths_before_the_depth(call: &mut Call) -> Answer {
 
 #[test]
 fn ground() {
-    let mutants: [(&str, Runner); 18] = [
+    let mutants: [(&str, Runner); 21] = [
         ("reads p as zero", reads_p_as_zero),
+        ("reads zero as free", reads_zero_as_free),
         ("reads zero as overlap", reads_zero_as_overlap),
+        ("reads one as contact", reads_one_as_contact),
+        ("reads minus one as contact", reads_minus_one_as_contact),
         ("reads the half as free", reads_the_half_as_free),
         ("takes a clearance too large", takes_a_clearance_too_large),
         ("takes a clearance too small", takes_a_clearance_too_small),

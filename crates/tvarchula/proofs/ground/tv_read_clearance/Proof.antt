@@ -11,6 +11,9 @@ read-clearance-requires c κs = search needs
 enum-known-r : tie.Need-enum-known-r
 enum-known-r c = search needs
 
+enum-told : tie.Need-enum-told
+enum-told c = search needs
+
 enum-known-r-2 : tie.Need-enum-known-r-2
 enum-known-r-2 c = search needs
 
@@ -24,10 +27,13 @@ returns : tie.Need-returns
 returns c = ap readingReply (ap readingOutcome (sym (c .before .r .given .1)) ∙ c .before .before .before .read-clearance .ensures)
 
 returns-2 : tie.Need-returns-2
-returns-2 c = ap readingReply (ap readingOutcome (sym (c .before .r2 .given .1)) ∙ c .before .before .before .read-clearance .ensures)
+returns-2 c = ap readingReply (ap readingOutcome (sym (c .enum-told .given .1)) ∙ c .before .before .read-clearance .ensures)
 
 returns-3 : tie.Need-returns-3
-returns-3 c = (λ i. record { number = c .number .ensures i; kind = 0; amount = 0 }) ∙ ap readingReply (ap readingOutcome (sym (c .before .before .r3 .given .1)) ∙ c .before .before .before .before .read-clearance .ensures)
+returns-3 c = ap readingReply (ap readingOutcome (sym (c .before .r2 .given .1)) ∙ c .before .before .before .read-clearance .ensures)
+
+returns-4 : tie.Need-returns-4
+returns-4 c = (λ i. record { number = c .number .ensures i; kind = 0; amount = 0 }) ∙ ap readingReply (ap readingOutcome (sym (c .before .before .r3 .given .1)) ∙ c .before .before .before .before .read-clearance .ensures)
 
 pub tv-read-clearance-spec : {M : Type 1} → statement M
 tv-read-clearance-spec =
@@ -35,9 +41,11 @@ tv-read-clearance-spec =
     (tie.spec
     read-clearance-requires
     enum-known-r
+    enum-told
     enum-known-r-2
     enum-known-r-3
     number-requires
     returns
     returns-2
-    returns-3)
+    returns-3
+    returns-4)
