@@ -4,51 +4,58 @@ use mathlib.Core.List.{List}
 use mathlib.Core.Option.{Option, some}
 use Prim.Native.Nat.{ℕ, _≤_, _<_}
 use lib.ListN.{length}
-use Rattle.algebra.specs.Words.{𝔽₁}
+use Rattle.algebra.specs.Ring.{Ring}
+use Rattle.algebra.specs.Field.{Field}
+use Rattle.algebra.specs.Words.{PrimeField}
 use Rattle.algebra.specs.WordLists.{Low as LowWords, elements}
 use Rattle.basefold.specs.Layout.{finalAt}
 use Rattle.basefold.specs.Checks.{Check, sumCheck, firstFailure, sumsFrom}
-use Rattle.residue.specs.Residues.{P, F, Element, elem, Low}
+use Rattle.residue.specs.Elements.{Low, elem}
 use Rattle.residue.specs.declared.Residue.{Residue}
 use Rattle.claims.specs.declared.sums.Claimed.{Claimed}
 use Rattle.claims.specs.declared.sums.Claimed.the-variants.{Last, Fails}
 
--- an opening that holds h_i
-pub record RoundSent (d i : ℕ) (o : List ℕ) : Type 0 where
-  pub positive : 0 < i
-  pub level : i ≤ d
-  pub long : finalAt d < length o
-  pub low : LowWords P o
+module _ (𝓕 : PrimeField) where
+  open PrimeField 𝓕 using (modulus as P, field as F)
+  open Field F using (ring as K)
+  open Ring K using (R as Element)
 
--- challenges with r_(i-1) among them
-pub record ChallengeSent (i : ℕ) (r : List ℕ) : Type 0 where
-  pub long : i ≤ length r
-  pub low : LowWords P r
+  -- an opening that holds h_i
+  pub record RoundSent (d i : ℕ) (o : List ℕ) : Type 0 where
+    pub positive : 0 < i
+    pub level : i ≤ d
+    pub long : finalAt d < length o
+    pub low : LowWords P o
 
--- a claim, challenges, and an opening with all rounds and v
-pub record SumsInput (d : ℕ) (y : Residue) (r o : List ℕ) : Type 0 where
-  pub claim : Low y
-  pub challenges : length r ≡ d
-  pub low : LowWords P r
-  pub long : finalAt d < length o
-  pub opening : LowWords P o
+  -- challenges with r_(i-1) among them
+  pub record ChallengeSent (i : ℕ) (r : List ℕ) : Type 0 where
+    pub long : i ≤ length r
+    pub low : LowWords P r
 
--- what the sums are lent, and a point
-pub record ClaimsInput (d : ℕ) (y : Residue) (z r o : List ℕ) : Type 0 where
-  pub sums : SumsInput d y r o
-  pub point : length z ≡ d
-  pub low : LowWords P z
+  -- a claim, challenges, and an opening with all rounds and v
+  pub record SumsInput (d : ℕ) (y : Residue) (r o : List ℕ) : Type 0 where
+    pub claim : Low 𝓕 y
+    pub challenges : length r ≡ d
+    pub low : LowWords P r
+    pub long : finalAt d < length o
+    pub opening : LowWords P o
 
--- the first failure by the answer of the sums: sum i failed, or the final check decides
-abbrev pub afterSums : (o z r : List Element) → Claimed → Option Check
-afterSums o z r (Last w) = firstFailure (sumsFrom F 0 o z r 0 (elem w))
-afterSums o z r (Fails i) = some (sumCheck i)
+  -- what the sums are lent, and a point
+  pub record ClaimsInput (d : ℕ) (y : Residue) (z r o : List ℕ) : Type 0 where
+    pub sums : SumsInput d y r o
+    pub point : length z ≡ d
+    pub low : LowWords P z
 
-abbrev pub LowClaim : Claimed → Type 0
-LowClaim (Last w) = Low w
-LowClaim (Fails i) = Unit {0}
+  -- the first failure by the answer of the sums: sum i failed, or the final check decides
+  abbrev pub afterSums : (o z r : List Element) → Claimed → Option Check
+  afterSums o z r (Last w) = firstFailure (sumsFrom F 0 o z r 0 (elem 𝓕 w))
+  afterSums o z r (Fails i) = some (sumCheck i)
 
--- the answer s of the sums from the top one on, at every point
-pub record SumsResult (d : ℕ) (y : Residue) (r o : List ℕ) (s : Claimed) : Type 0 where
-  pub low : LowClaim s
-  pub first : (z : List Element) → firstFailure (sumsFrom F 0 (elements 𝔽₁ o) z (elements 𝔽₁ r) d (elem y)) ≡ afterSums (elements 𝔽₁ o) z (elements 𝔽₁ r) s
+  abbrev pub LowClaim : Claimed → Type 0
+  LowClaim (Last w) = Low 𝓕 w
+  LowClaim (Fails i) = Unit {0}
+
+  -- the answer s of the sums from the top one on, at every point
+  pub record SumsResult (d : ℕ) (y : Residue) (r o : List ℕ) (s : Claimed) : Type 0 where
+    pub low : LowClaim s
+    pub first : (z : List Element) → firstFailure (sumsFrom F 0 (elements 𝓕 o) z (elements 𝓕 r) d (elem 𝓕 y)) ≡ afterSums (elements 𝓕 o) z (elements 𝓕 r) s

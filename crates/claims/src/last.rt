@@ -12,7 +12,7 @@ use verdict::Failure;
 use verdict::Found;
 
 pub fn last(depth: u32, claim: Residue, z: &[u32], r: &[u32], opening: &[u32]) -> Found
-    requires { ⌜ ClaimsInput depth claim (now z) (now r) (now opening) ⌝ }
+    requires { ⌜ ClaimsInput 𝔽₁ depth claim (now z) (now r) (now opening) ⌝ }
     ensures { λ f. ⌜ found f ≡ firstFailure (sumsFrom F 0 (elements 𝔽₁ (now (opening .entry))) (elements 𝔽₁ (now (z .entry))) (elements 𝔽₁ (now (r .entry))) 0 (elem claim)) ⌝ }
 {
     let v = Residue::new(opening[layout::final_at(depth)]);

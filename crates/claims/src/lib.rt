@@ -15,7 +15,7 @@ mod last;
 mod sums;
 
 pub fn claims(depth: u32, z: &[u32], y: Residue, r: &[u32], opening: &[u32]) -> Found
-    requires { ⌜ ClaimsInput depth y (now z) (now r) (now opening) ⌝ }
+    requires { ⌜ ClaimsInput 𝔽₁ depth y (now z) (now r) (now opening) ⌝ }
     ensures { λ f. ⌜ found f ≡ firstFailure (sumChecks F 0 (elements 𝔽₁ (now (opening .entry))) (elements 𝔽₁ (now (z .entry))) (elements 𝔽₁ (now (r .entry))) (elem y)) ⌝ }
 {
     match sums::sums(depth, y, r, opening) {

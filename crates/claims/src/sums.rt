@@ -31,7 +31,7 @@ fn through(a: Residue, b: Residue, c: Residue, x: Residue) -> Residue
 
 // Whether h_i at 0 and at 1 sum to the claim.
 fn sum_holds(depth: u32, i: u32, claim: Residue, opening: &[u32]) -> bool
-    requires { ⌜ Low claim × RoundSent depth i (now opening) ⌝ }
+    requires { ⌜ Low claim × RoundSent 𝔽₁ depth i (now opening) ⌝ }
     ensures { λ b. ⌜ b ≡ sameElement F (sent F (elements 𝔽₁ (now (opening .entry))) depth i 0 ⊞ sent F (elements 𝔽₁ (now (opening .entry))) depth i 1) (elem claim) ⌝ }
 {
     let at = layout::round_at(depth, i);
@@ -42,7 +42,7 @@ fn sum_holds(depth: u32, i: u32, claim: Residue, opening: &[u32]) -> bool
 
 // h_i at the challenge r_(i-1).
 fn next_claim(depth: u32, i: u32, r: &[u32], opening: &[u32]) -> Residue
-    requires { ⌜ RoundSent depth i (now opening) × ChallengeSent i (now r) ⌝ }
+    requires { ⌜ RoundSent 𝔽₁ depth i (now opening) × ChallengeSent 𝔽₁ i (now r) ⌝ }
     ensures { λ w. ⌜ w .0 ≡ word (quadratic K half (sent F (elements 𝔽₁ (now (opening .entry))) depth i 0) (sent F (elements 𝔽₁ (now (opening .entry))) depth i 1) (sent F (elements 𝔽₁ (now (opening .entry))) depth i 2) (el (getD (now (r .entry)) (i - 1) 0))) ⌝ }
 {
     let at = layout::round_at(depth, i);
@@ -53,8 +53,8 @@ fn next_claim(depth: u32, i: u32, r: &[u32], opening: &[u32]) -> Residue
 }
 
 pub fn sums(depth: u32, y: Residue, r: &[u32], opening: &[u32]) -> Claimed
-    requires { ⌜ SumsInput depth y (now r) (now opening) ⌝ }
-    ensures { λ s. ⌜ SumsResult depth y (now (r .entry)) (now (opening .entry)) s ⌝ }
+    requires { ⌜ SumsInput 𝔽₁ depth y (now r) (now opening) ⌝ }
+    ensures { λ s. ⌜ SumsResult 𝔽₁ depth y (now (r .entry)) (now (opening .entry)) s ⌝ }
 {
     let mut i = depth;
     let mut claim = y;

@@ -8,14 +8,13 @@ use lib.Dec.{eqb}
 use lib.ListN.{length}
 use borrow.Author.Tests.{eqb-true}
 use Rattle.algebra.specs.Tests.{and-both}
-use Rattle.algebra.specs.Words.{𝔽₁}
+use Rattle.algebra.specs.Words.{PrimeField}
 use Rattle.algebra.specs.WordLists.{low-words, elements, toWords, elements-words, length-elements}
 use Rattle.foldable.specs.Code.{encode}
 use Rattle.foldable.specs.Lift.{lift, lift-spread}
 use Rattle.job.specs.Outcome.{done}
 use Rattle.job.specs.OutcomeLaws.{require-done, both}
 use Rattle.job.specs.Limits.{blockSize}
-use Rattle.residue.specs.Residues.{F}
 use Rattle.residue.specs.Scans.{allBelow}
 use Rattle.residue.specs.ScanLaws.{all-below}
 use Rattle.parameters.specs.Lent.{lent}
@@ -25,35 +24,38 @@ use Rattle.code.specs.Encoding.{encodeLengths, judgeEncoding, EncodeInpu
 use Rattle.code.specs.Steps.{SpreadInput, LiftInput}
 use Rattle.code.proofs.Spreads.{length-spreaded, spreaded}
 
--- the job's tests have passed
-pub encodes : (d c : ℕ) (g t t' m : List ℕ) (n : ℕ) → judgeEncoding d c g t t' m n ≡ done tt → EncodeInput d g t t' m n
-unfolding judgeEncoding encodeLengths
-encodes d c g t t' m n e =
-    let a = both (limits d c) e .1 in
-    let b = require-done (encodeLengths d c (length g) (length t) (length t') (length m) n) 3 a in
-    let k = require-done (rowWords g t t' && allBelow m) 4 (b .1) in
-    let l = and-both (rowLengths d c (length g) (length t) (length t')) _ (b .0) in
-    let s = and-both (eqb (length m) (2 ^ d)) _ (l .1) in
-    let w = and-both (rowWords g t t') _ (k .0) in
-    record {
-      coding = lent-coding d c g t t' (l .0) (w .0) (k .1);
-      message = eqb-true _ _ (s .0);
-      words = all-below m (w .1);
-      size = eqb-true _ _ (s .1) ∙ ap (λ r. blockSize r d) (sym (row-lengths d c _ _ _ (l .0) .row));
-    }
+module _ (𝓕 : PrimeField) where
+  open PrimeField 𝓕 using (field as F)
 
-module _ (d : ℕ) (g t t' m out : List ℕ) (𝓔 : EncodeInput d g t t' m (length out)) where
-  blocks : blockSize (length g) d ≡ length m * length g
-  blocks = mul-comm (length g) (2 ^ d) ∙ ap (λ k. k * length g) (sym (𝓔 .message))
+  -- the job's tests have passed
+  pub encodes : (d c : ℕ) (g t t' m : List ℕ) (n : ℕ) → judgeEncoding 𝓕 d c g t t' m n ≡ done tt → EncodeInput 𝓕 d g t t' m n
+  unfolding judgeEncoding encodeLengths
+  encodes d c g t t' m n e =
+      let a = both (limits d c) e .1 in
+      let b = require-done (encodeLengths d c (length g) (length t) (length t') (length m) n) 3 a in
+      let k = require-done (rowWords 𝓕 g t t' && allBelow 𝓕 m) 4 (b .1) in
+      let l = and-both (rowLengths d c (length g) (length t) (length t')) _ (b .0) in
+      let s = and-both (eqb (length m) (2 ^ d)) _ (l .1) in
+      let w = and-both (rowWords 𝓕 g t t') _ (k .0) in
+      record {
+        coding = lent-coding 𝓕 d c g t t' (l .0) (w .0) (k .1);
+        message = eqb-true _ _ (s .0);
+        words = all-below 𝓕 m (w .1);
+        size = eqb-true _ _ (s .1) ∙ ap (λ r. blockSize r d) (sym (row-lengths d c _ _ _ (l .0) .row));
+      }
 
-  pub spreading : SpreadInput m g out
-  spreading = record { message = 𝓔 .words; row = 𝓔 .coding .row; size = 𝓔 .size ∙ blocks }
+  module _ (d : ℕ) (g t t' m out : List ℕ) (𝓔 : EncodeInput 𝓕 d g t t' m (length out)) where
+    blocks : blockSize (length g) d ≡ length m * length g
+    blocks = mul-comm (length g) (2 ^ d) ∙ ap (λ k. k * length g) (sym (𝓔 .message))
 
-  pub lifting : (w : List ℕ) → w ≡ spreaded m g → LiftInput d g t t' w
-  lifting w e =
-      record { coding = 𝓔 .coding; size = ap length e ∙ length-spreaded m g ∙ sym blocks; block = rw e (low-words 𝔽₁ _) }
+    pub spreading : SpreadInput 𝓕 m g out
+    spreading = record { message = 𝓔 .words; row = 𝓔 .coding .row; size = 𝓔 .size ∙ blocks }
 
-  pub encoded : (w r : List ℕ) → w ≡ spreaded m g → r ≡ toWords 𝔽₁ (lift F (lent g t t') d (elements 𝔽₁ w)) → r ≡ toWords 𝔽₁ (encode F (lent g t t') d (elements 𝔽₁ m))
-  encoded w r e q =
-      q ∙ ap (λ v. toWords 𝔽₁ (lift F (lent g t t') d v)) (ap (elements 𝔽₁) e ∙ elements-words 𝔽₁ _)
-      ∙ ap (toWords 𝔽₁) (lift-spread F (elements 𝔽₁ g) _ _ d (𝓔 .coding .legal) (elements 𝔽₁ m) (length-elements 𝔽₁ m ∙ 𝓔 .message))
+    pub lifting : (w : List ℕ) → w ≡ spreaded 𝓕 m g → LiftInput 𝓕 d g t t' w
+    lifting w e =
+        record { coding = 𝓔 .coding; size = ap length e ∙ length-spreaded 𝓕 m g ∙ sym blocks; block = rw e (low-words 𝓕 _) }
+
+    pub encoded : (w r : List ℕ) → w ≡ spreaded 𝓕 m g → r ≡ toWords 𝓕 (lift F (lent 𝓕 g t t') d (elements 𝓕 w)) → r ≡ toWords 𝓕 (encode F (lent 𝓕 g t t') d (elements 𝓕 m))
+    encoded w r e q =
+        q ∙ ap (λ v. toWords 𝓕 (lift F (lent 𝓕 g t t') d v)) (ap (elements 𝓕) e ∙ elements-words 𝓕 _)
+        ∙ ap (toWords 𝓕) (lift-spread F (elements 𝓕 g) _ _ d (𝓔 .coding .legal) (elements 𝓕 m) (length-elements 𝓕 m ∙ 𝓔 .message))

@@ -2,6 +2,7 @@
 ghost use mathlib.Core.Path.{_≡_};
 ghost use mathlib.Core.Bool.{_&&_};
 ghost use lib.ListN.{length};
+ghost use Rattle.algebra.specs.Words.{𝔽₁};
 ghost use Rattle.job.specs.Outcome.{outcome};
 ghost use Rattle.parameters.specs.Lent.{codeword};
 ghost use Rattle.parameters.specs.Parameters.{inLimits};
@@ -12,8 +13,8 @@ use job::Answer;
 
 // Into out, of exact lengths.
 pub fn encode_words(depth: u32, g: &[u32], t: &[u32], t2: &[u32], m: &[u32], out: &mut [u32])
-    requires { ⌜ EncodeInput depth (now g) (now t) (now t2) (now m) (length (now out)) ⌝ }
-    ensures { λ _. ⌜ now (out .exit) ≡ codeword depth (now (g .entry)) (now (t .entry)) (now (t2 .entry)) (now (m .entry)) ⌝ }
+    requires { ⌜ EncodeInput 𝔽₁ depth (now g) (now t) (now t2) (now m) (length (now out)) ⌝ }
+    ensures { λ _. ⌜ now (out .exit) ≡ codeword 𝔽₁ depth (now (g .entry)) (now (t .entry)) (now (t2 .entry)) (now (m .entry)) ⌝ }
 {
     spread::spread(m, g, out);
     lift::lift(depth, g, t, t2, out);
@@ -32,7 +33,7 @@ fn lengths_ok(depth: u32, rate: u32, g: usize, t: usize, t2: usize, m: usize, ou
 }
 
 fn judge(depth: u32, rate: u32, g: &[u32], t: &[u32], t2: &[u32], m: &[u32], out: usize) -> Answer
-    ensures { λ r. ⌜ outcome r ≡ judgeEncoding depth rate (now (g .entry)) (now (t .entry)) (now (t2 .entry)) (now (m .entry)) out ⌝ }
+    ensures { λ r. ⌜ outcome r ≡ judgeEncoding 𝔽₁ depth rate (now (g .entry)) (now (t .entry)) (now (t2 .entry)) (now (m .entry)) out ⌝ }
 {
     let lengths = lengths_ok(depth, rate, g.len(), t.len(), t2.len(), m.len(), out);
     let row = parameters::scan_row(lengths, g, t, t2);
@@ -49,7 +50,7 @@ pub fn encode(
     message: &[u32],
     out: &mut [u32],
 ) -> Answer
-    ensures { λ r. ⌜ Encoded depth rate (now (g .entry)) (now (t .entry)) (now (t2 .entry)) (now (message .entry)) (now (out .entry)) r (now (out .exit)) ⌝ }
+    ensures { λ r. ⌜ Encoded 𝔽₁ depth rate (now (g .entry)) (now (t .entry)) (now (t2 .entry)) (now (message .entry)) (now (out .entry)) r (now (out .exit)) ⌝ }
 {
     let answer = judge(depth, rate, g, t, t2, message, out.len());
     if let Answer::Done = answer {

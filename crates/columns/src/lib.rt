@@ -3,6 +3,7 @@
 ghost use mathlib.Core.Path.{_≡_};
 ghost use Prim.Native.Nat.{_^_};
 ghost use lib.ListN.{length, take};
+ghost use Rattle.algebra.specs.Words.{𝔽₁};
 ghost use Rattle.foldable.specs.Every.{every};
 ghost use Rattle.parameters.specs.Lent.{codeword};
 ghost use Rattle.residue.specs.Scans.{allSame};
@@ -23,8 +24,8 @@ fn same_column(
     block: &[u32],
     work: &mut [u32],
 ) -> bool
-    requires { ⌜ MessageLent depth j (now g) (now t) (now t2) (now block) (now work) ⌝ }
-    ensures { λ r. ⌜ (r ≡ allSame (every 0 (length (now (g .entry))) j (2 ^ depth) (codeword depth (now (g .entry)) (now (t .entry)) (now (t2 .entry)) (take (2 ^ depth) (now (work .entry))))) (every 0 (length (now (g .entry))) j (2 ^ depth) (now (block .entry)))) × (take (2 ^ depth) (now (work .exit)) ≡ take (2 ^ depth) (now (work .entry))) ⌝ }
+    requires { ⌜ MessageLent 𝔽₁ depth j (now g) (now t) (now t2) (now block) (now work) ⌝ }
+    ensures { λ r. ⌜ (r ≡ allSame (every 0 (length (now (g .entry))) j (2 ^ depth) (codeword 𝔽₁ depth (now (g .entry)) (now (t .entry)) (now (t2 .entry)) (take (2 ^ depth) (now (work .entry))))) (every 0 (length (now (g .entry))) j (2 ^ depth) (now (block .entry)))) × (take (2 ^ depth) (now (work .exit)) ≡ take (2 ^ depth) (now (work .entry))) ⌝ }
 {
     let n = job::message_len(depth);
     let e = n + n;
@@ -41,8 +42,8 @@ pub fn same_columns(
     block: &[u32],
     work: &mut [u32],
 ) -> bool
-    requires { ⌜ (DecodeInput depth (now g) (now t) (now t2) (now block) (length (now work))) × (take (2 ^ depth) (now work) ≡ decoded depth (now g) (now t) (now t2) (now block)) ⌝ }
-    ensures { λ r. ⌜ (r ≡ allSame (codeword depth (now (g .entry)) (now (t .entry)) (now (t2 .entry)) (decoded depth (now (g .entry)) (now (t .entry)) (now (t2 .entry)) (now (block .entry)))) (now (block .entry))) × (take (2 ^ depth) (now (work .exit)) ≡ decoded depth (now (g .entry)) (now (t .entry)) (now (t2 .entry)) (now (block .entry))) ⌝ }
+    requires { ⌜ (DecodeInput 𝔽₁ depth (now g) (now t) (now t2) (now block) (length (now work))) × (take (2 ^ depth) (now work) ≡ decoded 𝔽₁ depth (now g) (now t) (now t2) (now block)) ⌝ }
+    ensures { λ r. ⌜ (r ≡ allSame (codeword 𝔽₁ depth (now (g .entry)) (now (t .entry)) (now (t2 .entry)) (decoded 𝔽₁ depth (now (g .entry)) (now (t .entry)) (now (t2 .entry)) (now (block .entry)))) (now (block .entry))) × (take (2 ^ depth) (now (work .exit)) ≡ decoded 𝔽₁ depth (now (g .entry)) (now (t .entry)) (now (t2 .entry)) (now (block .entry))) ⌝ }
 {
     let mut j = 1;
     while j < g.len() {

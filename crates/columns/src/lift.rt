@@ -33,8 +33,8 @@ fn column_half(depth: u32, j: usize, c: usize) -> ColumnHalf
 }
 
 fn lift(depth: u32, j: usize, g: &[u32], t: &[u32], t2: &[u32], w: &mut [u32])
-    requires { ⌜ ColumnLent depth j (now g) (now t) (now t2) (now w) ⌝ }
-    ensures { λ _. ⌜ now (w .exit) ≡ toWords 𝔽₁ (lifted F (lentColumn j (now (g .entry)) (now (t .entry)) (now (t2 .entry))) depth (elements 𝔽₁ (now (w .entry)))) ⌝ }
+    requires { ⌜ ColumnLent 𝔽₁ depth j (now g) (now t) (now t2) (now w) ⌝ }
+    ensures { λ _. ⌜ now (w .exit) ≡ toWords 𝔽₁ (lifted F (lentColumn 𝔽₁ j (now (g .entry)) (now (t .entry)) (now (t2 .entry))) depth (elements 𝔽₁ (now (w .entry)))) ⌝ }
 {
     if depth == 0 {
         return;
@@ -57,8 +57,8 @@ pub fn lifts_to(
     block: &[u32],
     w: &mut [u32],
 ) -> bool
-    requires { ⌜ (ColumnLent depth j (now g) (now t) (now t2) (now w)) × (length (now block) ≡ blockSize (length (now g)) depth) ⌝ }
-    ensures { λ r. ⌜ r ≡ allSame (toWords 𝔽₁ (lifted F (lentColumn j (now (g .entry)) (now (t .entry)) (now (t2 .entry))) depth (elements 𝔽₁ (now (w .entry))))) (every 0 (length (now (g .entry))) j (2 ^ depth) (now (block .entry))) ⌝ }
+    requires { ⌜ (ColumnLent 𝔽₁ depth j (now g) (now t) (now t2) (now w)) × (length (now block) ≡ blockSize (length (now g)) depth) ⌝ }
+    ensures { λ r. ⌜ r ≡ allSame (toWords 𝔽₁ (lifted F (lentColumn 𝔽₁ j (now (g .entry)) (now (t .entry)) (now (t2 .entry))) depth (elements 𝔽₁ (now (w .entry))))) (every 0 (length (now (g .entry))) j (2 ^ depth) (now (block .entry))) ⌝ }
 {
     lift(depth, j, g, t, t2, w);
     places::same_places(j, g.len(), block, w)

@@ -16,8 +16,8 @@ use residue::entry;
 
 // a times the first n words, behind them.
 pub fn scale_front(n: usize, a: Residue, w: &mut [u32])
-    requires { ⌜ ScaleLent n a (now w) ⌝ }
-    ensures { λ _. ⌜ now (w .exit) ≡ paste (now (w .entry)) n (toWords 𝔽₁ (times (elem a) (elements 𝔽₁ (take n (now (w .entry)))))) n ⌝ }
+    requires { ⌜ ScaleLent 𝔽₁ n a (now w) ⌝ }
+    ensures { λ _. ⌜ now (w .exit) ≡ paste (now (w .entry)) n (toWords 𝔽₁ (times 𝔽₁ (elem a) (elements 𝔽₁ (take n (now (w .entry)))))) n ⌝ }
 {
     let mut i = 0;
     while i < n {
@@ -29,8 +29,8 @@ pub fn scale_front(n: usize, a: Residue, w: &mut [u32])
 
 // The halves l and r of w become l + t r and l + t2 r, with the diagonals in every c-th place of t and t2 from a on.
 pub fn cross(n: usize, a: usize, c: usize, t: &[u32], t2: &[u32], w: &mut [u32])
-    requires { ⌜ CrossLent n a c (now t) (now t2) (now w) ⌝ }
-    ensures { λ _. ⌜ now (w .exit) ≡ crossed (every 0 c a n (now (t .entry))) (every 0 c a n (now (t2 .entry))) (now (w .entry)) ⌝ }
+    requires { ⌜ CrossLent 𝔽₁ n a c (now t) (now t2) (now w) ⌝ }
+    ensures { λ _. ⌜ now (w .exit) ≡ crossed 𝔽₁ (every 0 c a n (now (t .entry))) (every 0 c a n (now (t2 .entry))) (now (w .entry)) ⌝ }
 {
     let mut i = 0;
     let mut p = a;

@@ -5,13 +5,12 @@ use mathlib.Core.List.{List}
 use Prim.Native.Nat.{ℕ, _^_}
 use lib.Dec.{eqb}
 use lib.ListN.{length, replicate}
-use Rattle.algebra.specs.Words.{𝔽₁}
+use Rattle.algebra.specs.Words.{PrimeField}
 use Rattle.algebra.specs.WordLists.{Low, elements}
 use Rattle.foldable.specs.Code.{Codeword}
 use Rattle.job.specs.declared.Answer.{Answer}
 use Rattle.job.specs.Outcome.{Outcome, refused, done, outcome}
 use Rattle.job.specs.Limits.{blockSize}
-use Rattle.residue.specs.Residues.{P, F}
 use Rattle.residue.specs.Scans.{allBelow}
 use Rattle.parameters.specs.Lent.{lent, codeword}
 use Rattle.parameters.specs.Parameters.{rowLengths, rowWords, judgeRow}
@@ -20,17 +19,20 @@ use Rattle.parameters.specs.Parameters.{rowLengths, rowWords, judgeRow}
 unfoldable pub decodeLengths : ℕ → ℕ → ℕ → ℕ → ℕ → ℕ → ℕ → ℕ → Bool
 decodeLengths d c g t t' b m k = rowLengths d c g t t' && (eqb b (blockSize c d) && (eqb m (2 ^ d) && eqb k (blockSize c d)))
 
--- the refusals 1 to 6, with a result of m words and a work buffer of k
-unfoldable pub judgeDecoding : ℕ → ℕ → List ℕ → List ℕ → List ℕ → List ℕ → ℕ → ℕ → Outcome (Unit {0})
-judgeDecoding d c g t t' b m k =
-    judgeRow d c g t t' (decodeLengths d c (length g) (length t) (length t') (length b) m k) (rowWords g t t' && allBelow b)
+module _ (𝓕 : PrimeField) where
+  open PrimeField 𝓕 using (modulus as P, field as F)
 
--- answer r and result out for a block for which none of these is due: out is a message whose codeword it is; or it is no codeword, and out is as it was
-pub data Settled (d : ℕ) (g t t' b old : List ℕ) (r : Answer) (out : List ℕ) : Type 0 where
-  message : outcome r ≡ done tt → length out ≡ 2 ^ d → Low P out → codeword d g t t' out ≡ b → Settled d g t t' b old r out
-  none : outcome r ≡ refused 8 → (Codeword F (lent g t t') d (elements 𝔽₁ b) → ⊥) → out ≡ old → Settled d g t t' b old r out
+  -- the refusals 1 to 6, with a result of m words and a work buffer of k
+  unfoldable pub judgeDecoding : ℕ → ℕ → List ℕ → List ℕ → List ℕ → List ℕ → ℕ → ℕ → Outcome (Unit {0})
+  judgeDecoding d c g t t' b m k =
+      judgeRow d c g t t' (decodeLengths d c (length g) (length t) (length t') (length b) m k) (rowWords 𝓕 g t t' && allBelow 𝓕 b)
 
--- answer r, result out and work buffer work, which were old and space
-pub data Decoded (d c : ℕ) (g t t' b old space : List ℕ) (r : Answer) (out work : List ℕ) : Type 0 where
-  refusal : (n : ℕ) → judgeDecoding d c g t t' b (length old) (length space) ≡ refused n → outcome r ≡ refused n → out ≡ old → work ≡ space → Decoded d c g t t' b old space r out work
-  settled : judgeDecoding d c g t t' b (length old) (length space) ≡ done tt → Settled d g t t' b old r out → work ≡ replicate (length space) 0 → Decoded d c g t t' b old space r out work
+  -- answer r and result out for a block for which none of these is due: out is a message whose codeword it is; or it is no codeword, and out is as it was
+  pub data Settled (d : ℕ) (g t t' b old : List ℕ) (r : Answer) (out : List ℕ) : Type 0 where
+    message : outcome r ≡ done tt → length out ≡ 2 ^ d → Low P out → codeword 𝓕 d g t t' out ≡ b → Settled d g t t' b old r out
+    none : outcome r ≡ refused 8 → (Codeword F (lent 𝓕 g t t') d (elements 𝓕 b) → ⊥) → out ≡ old → Settled d g t t' b old r out
+
+  -- answer r, result out and work buffer work, which were old and space
+  pub data Decoded (d c : ℕ) (g t t' b old space : List ℕ) (r : Answer) (out work : List ℕ) : Type 0 where
+    refusal : (n : ℕ) → judgeDecoding d c g t t' b (length old) (length space) ≡ refused n → outcome r ≡ refused n → out ≡ old → work ≡ space → Decoded d c g t t' b old space r out work
+    settled : judgeDecoding d c g t t' b (length old) (length space) ≡ done tt → Settled d g t t' b old r out → work ≡ replicate (length space) 0 → Decoded d c g t t' b old space r out work

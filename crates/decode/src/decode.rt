@@ -3,6 +3,7 @@ ghost use mathlib.Core.Path.{_≡_};
 ghost use mathlib.Core.Bool.{_&&_};
 ghost use Prim.Native.Nat.{_^_, _≤_};
 ghost use lib.ListN.{length, take, replicate};
+ghost use Rattle.algebra.specs.Words.{𝔽₁};
 ghost use Rattle.job.specs.Outcome.{outcome};
 ghost use Rattle.parameters.specs.Parameters.{inLimits};
 ghost use Rattle.undo.specs.Steps.{DecodeInput};
@@ -26,8 +27,8 @@ fn is_its_codeword(
     block: &[u32],
     work: &mut [u32],
 ) -> bool
-    requires { ⌜ Found depth (now g) (now t) (now t2) (now block) (now work) ⌝ }
-    ensures { λ r. ⌜ Tried depth (now (g .entry)) (now (t .entry)) (now (t2 .entry)) (now (block .entry)) r (now (work .exit)) ⌝ }
+    requires { ⌜ Found 𝔽₁ depth (now g) (now t) (now t2) (now block) (now work) ⌝ }
+    ensures { λ r. ⌜ Tried 𝔽₁ depth (now (g .entry)) (now (t .entry)) (now (t2 .entry)) (now (block .entry)) r (now (work .exit)) ⌝ }
 {
     if g.len() < BY_HALVES {
         return columns::same_columns(depth, g, t, t2, block, work);
@@ -44,8 +45,8 @@ fn is_codeword(
     block: &[u32],
     work: &mut [u32],
 ) -> bool
-    requires { ⌜ DecodeInput depth (now g) (now t) (now t2) (now block) (length (now work)) ⌝ }
-    ensures { λ r. ⌜ Tried depth (now (g .entry)) (now (t .entry)) (now (t2 .entry)) (now (block .entry)) r (now (work .exit)) ⌝ }
+    requires { ⌜ DecodeInput 𝔽₁ depth (now g) (now t) (now t2) (now block) (length (now work)) ⌝ }
+    ensures { λ r. ⌜ Tried 𝔽₁ depth (now (g .entry)) (now (t .entry)) (now (t2 .entry)) (now (block .entry)) r (now (work .exit)) ⌝ }
 {
     message::message_of(depth, g, t, t2, block, work);
     is_its_codeword(depth, g, t, t2, block, work)
@@ -78,8 +79,8 @@ fn settle(
     out: &mut [u32],
     work: &mut [u32],
 ) -> Answer
-    requires { ⌜ (DecodeInput depth (now g) (now t) (now t2) (now block) (length (now work))) × (length (now out) ≡ 2 ^ depth) ⌝ }
-    ensures { λ r. ⌜ (Settled depth (now (g .entry)) (now (t .entry)) (now (t2 .entry)) (now (block .entry)) (now (out .entry)) r (now (out .exit))) × (now (work .exit) ≡ replicate (length (now (work .entry))) 0) ⌝ }
+    requires { ⌜ (DecodeInput 𝔽₁ depth (now g) (now t) (now t2) (now block) (length (now work))) × (length (now out) ≡ 2 ^ depth) ⌝ }
+    ensures { λ r. ⌜ (Settled 𝔽₁ depth (now (g .entry)) (now (t .entry)) (now (t2 .entry)) (now (block .entry)) (now (out .entry)) r (now (out .exit))) × (now (work .exit) ≡ replicate (length (now (work .entry))) 0) ⌝ }
 {
     if !is_codeword(depth, g, t, t2, block, work) {
         return cleared(Answer::Refused(Refusal::NoCodeword), work);
@@ -123,7 +124,7 @@ fn judge(
     out: usize,
     work: usize,
 ) -> Answer
-    ensures { λ r. ⌜ outcome r ≡ judgeDecoding depth rate (now (g .entry)) (now (t .entry)) (now (t2 .entry)) (now (block .entry)) out work ⌝ }
+    ensures { λ r. ⌜ outcome r ≡ judgeDecoding 𝔽₁ depth rate (now (g .entry)) (now (t .entry)) (now (t2 .entry)) (now (block .entry)) out work ⌝ }
 {
     let lengths = lengths_ok(
         depth,
@@ -150,7 +151,7 @@ pub fn decode(
     out: &mut [u32],
     work: &mut [u32],
 ) -> Answer
-    ensures { λ r. ⌜ Decoded depth rate (now (g .entry)) (now (t .entry)) (now (t2 .entry)) (now (block .entry)) (now (out .entry)) (now (work .entry)) r (now (out .exit)) (now (work .exit)) ⌝ }
+    ensures { λ r. ⌜ Decoded 𝔽₁ depth rate (now (g .entry)) (now (t .entry)) (now (t2 .entry)) (now (block .entry)) (now (out .entry)) (now (work .entry)) r (now (out .exit)) (now (work .exit)) ⌝ }
 {
     let answer = judge(depth, rate, g, t, t2, block, out.len(), work.len());
     if let Answer::Done = answer {

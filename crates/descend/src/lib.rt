@@ -1,6 +1,7 @@
 // The block of a level as the fold of the block above it, in the opening that holds both, one behind the other.
 ghost use mathlib.Core.Path.{_≡_};
 ghost use lib.ListN.{length};
+ghost use Rattle.algebra.specs.Words.{𝔽₁};
 ghost use Rattle.algebra.specs.Lists.{put};
 ghost use Rattle.basefold.specs.Layout.{blockAt};
 ghost use Rattle.descend.specs.Descending.{FoldBlockInput, foldedAbove};
@@ -17,8 +18,8 @@ pub fn fold_block(
     r: &[u32],
     opening: &mut [u32],
 )
-    requires { ⌜ FoldBlockInput depth i (now g) (now t) (now t2) (now r) (now opening) ⌝ }
-    ensures { λ _. ⌜ now (opening .exit) ≡ put (blockAt (length (now (g .entry))) 0 depth i) (foldedAbove depth i (length (now (g .entry))) (now (t .entry)) (now (t2 .entry)) (now (r .entry)) (now (opening .entry))) (now (opening .entry)) ⌝ }
+    requires { ⌜ FoldBlockInput 𝔽₁ depth i (now g) (now t) (now t2) (now r) (now opening) ⌝ }
+    ensures { λ _. ⌜ now (opening .exit) ≡ put (blockAt (length (now (g .entry))) 0 depth i) (foldedAbove 𝔽₁ depth i (length (now (g .entry))) (now (t .entry)) (now (t2 .entry)) (now (r .entry)) (now (opening .entry))) (now (opening .entry)) ⌝ }
 {
     let rate = g.len() as u32;
     let above = i + 1;

@@ -5,13 +5,12 @@ use mathlib.Core.List.{List}
 use Prim.Native.Nat.{ℕ, _-_}
 use lib.Dec.{leb, ltb, eqb}
 use lib.ListN.{length}
-use Rattle.algebra.specs.Words.{𝔽₁}
+use Rattle.algebra.specs.Words.{Words, PrimeField}
 use Rattle.algebra.specs.WordLists.{elements, toWords}
 use Rattle.foldable.specs.Code.{foldAlong}
 use Rattle.job.specs.Limits.{maxDepth, rateOk, blockSize}
 use Rattle.job.specs.Outcome.{Outcome, require, _⨾_, kept, outcome}
 use Rattle.job.specs.declared.Answer.{Answer}
-use Rattle.residue.specs.Residues.{P, F, el}
 use Rattle.residue.specs.Scans.{allBelow, allDiffer}
 
 -- the upper level: at least 1
@@ -30,21 +29,25 @@ lengthsOk level rate t t2 block out =
     && (eqb block (blockSize rate level)
     && eqb out (blockSize rate (level - 1))))
 
-unfoldable pub wordsOk : List ℕ → List ℕ → List ℕ → ℕ → Bool
-wordsOk t t2 block a = (allBelow t && (allBelow t2 && allBelow block)) && ltb a P
+module _ (𝓕 : PrimeField) where
+  open PrimeField 𝓕 using (modulus as P, field as F, words as W)
+  open Words W using (el)
 
--- the outcome that is due
-unfoldable pub judgeFolding : ℕ → ℕ → List ℕ → List ℕ → List ℕ → ℕ → ℕ → Outcome (Unit {0})
-judgeFolding level rate t t2 block a out =
-    require (levelOk level) 1 ⨾ require (rateOk rate) 2
-    ⨾ require (lengthsOk level rate (length t) (length t2) (length block) out) 3
-    ⨾ require (wordsOk t t2 block a) 4 ⨾ require (allDiffer t t2) 6
+  unfoldable pub wordsOk : List ℕ → List ℕ → List ℕ → ℕ → Bool
+  wordsOk t t2 block a = (allBelow 𝓕 t && (allBelow 𝓕 t2 && allBelow 𝓕 block)) && ltb a P
 
--- the words of the fold by a, for diagonals and a result of n words
-abbrev pub foldWords : ℕ → List ℕ → List ℕ → List ℕ → ℕ → List ℕ
-foldWords n t t2 block a = toWords 𝔽₁ (foldAlong F n (el a) (elements 𝔽₁ t) (elements 𝔽₁ t2) (elements 𝔽₁ block))
+  -- the outcome that is due
+  unfoldable pub judgeFolding : ℕ → ℕ → List ℕ → List ℕ → List ℕ → ℕ → ℕ → Outcome (Unit {0})
+  judgeFolding level rate t t2 block a out =
+      require (levelOk level) 1 ⨾ require (rateOk rate) 2
+      ⨾ require (lengthsOk level rate (length t) (length t2) (length block) out) 3
+      ⨾ require (wordsOk t t2 block a) 4 ⨾ require (allDiffer t t2) 6
 
--- the answer r, and the result, which held old
-pub record Folded (level rate : ℕ) (t t2 block : List ℕ) (a : ℕ) (old : List ℕ) (r : Answer) (out : List ℕ) : Type 0 where
-  pub answer : outcome r ≡ judgeFolding level rate t t2 block a (length old)
-  pub result : out ≡ kept (judgeFolding level rate t t2 block a (length old)) old (foldWords (blockSize rate (level - 1)) t t2 block a)
+  -- the words of the fold by a, for diagonals and a result of n words
+  abbrev pub foldWords : ℕ → List ℕ → List ℕ → List ℕ → ℕ → List ℕ
+  foldWords n t t2 block a = toWords 𝓕 (foldAlong F n (el a) (elements 𝓕 t) (elements 𝓕 t2) (elements 𝓕 block))
+
+  -- the answer r, and the result, which held old
+  pub record Folded (level rate : ℕ) (t t2 block : List ℕ) (a : ℕ) (old : List ℕ) (r : Answer) (out : List ℕ) : Type 0 where
+    pub answer : outcome r ≡ judgeFolding level rate t t2 block a (length old)
+    pub result : out ≡ kept (judgeFolding level rate t t2 block a (length old)) old (foldWords (blockSize rate (level - 1)) t t2 block a)

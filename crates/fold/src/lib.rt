@@ -4,6 +4,7 @@ ghost use mathlib.Core.Bool.{_&&_};
 ghost use Prim.Native.Nat.{_+_};
 ghost use lib.Dec.{ltb};
 ghost use lib.ListN.{length};
+ghost use Rattle.algebra.specs.Words.{𝔽₁};
 ghost use Rattle.algebra.specs.WordLists.{Low as LowWords};
 ghost use Rattle.job.specs.Outcome.{outcome};
 ghost use Rattle.residue.specs.Residues.{P, Low};
@@ -60,7 +61,7 @@ fn lengths_ok(level: u32, rate: u32, t: usize, t2: usize, block: usize, out: usi
 
 // Whether all words are below the modulus, where those of the diagonals are.
 fn words_ok(diagonals: bool, block: &[u32], challenge: u32) -> bool
-    ensures { λ r. ⌜ r ≡ (diagonals && (allBelow (now (block .entry)) && ltb challenge P)) ⌝ }
+    ensures { λ r. ⌜ r ≡ (diagonals && (allBelow 𝔽₁ (now (block .entry)) && ltb challenge P)) ⌝ }
 {
     if !diagonals {
         return false;
@@ -73,7 +74,7 @@ fn words_ok(diagonals: bool, block: &[u32], challenge: u32) -> bool
 
 // Of the diagonals, where the lengths are right.
 fn scan_diagonals(lengths: bool, t: &[u32], t2: &[u32]) -> PairScan
-    ensures { λ r. ⌜ (r .below ≡ (lengths && (allBelow (now (t .entry)) && allBelow (now (t2 .entry))))) × (r .apart ≡ (lengths && allDiffer (now (t .entry)) (now (t2 .entry)))) ⌝ }
+    ensures { λ r. ⌜ (r .below ≡ (lengths && (allBelow 𝔽₁ (now (t .entry)) && allBelow 𝔽₁ (now (t2 .entry))))) × (r .apart ≡ (lengths && allDiffer (now (t .entry)) (now (t2 .entry)))) ⌝ }
 {
     if !lengths {
         return PairScan {
@@ -94,7 +95,7 @@ fn judge(
     challenge: u32,
     out: usize,
 ) -> Answer
-    ensures { λ r. ⌜ outcome r ≡ judgeFolding level rate (now (t .entry)) (now (t2 .entry)) (now (block .entry)) challenge out ⌝ }
+    ensures { λ r. ⌜ outcome r ≡ judgeFolding 𝔽₁ level rate (now (t .entry)) (now (t2 .entry)) (now (block .entry)) challenge out ⌝ }
 {
     let upper = level_ok(level);
     let fair = job::rate_ok(rate);
@@ -111,8 +112,8 @@ fn judge(
 
 // The fold, of what is judged already.
 fn fold_block(t: &[u32], t2: &[u32], block: &[u32], challenge: Residue, out: &mut [u32])
-    requires { ⌜ Diagonals 1 (length (now out)) (now t) (now t2) × (length (now block) ≡ length (now out) + length (now out)) × LowWords P (now block) × Low challenge ⌝ }
-    ensures { λ _. ⌜ now (out .exit) ≡ foldWords (length (now (out .entry))) (now (t .entry)) (now (t2 .entry)) (now (block .entry)) (challenge .0) ⌝ }
+    requires { ⌜ Diagonals 𝔽₁ 1 (length (now out)) (now t) (now t2) × (length (now block) ≡ length (now out) + length (now out)) × LowWords P (now block) × Low challenge ⌝ }
+    ensures { λ _. ⌜ now (out .exit) ≡ foldWords 𝔽₁ (length (now (out .entry))) (now (t .entry)) (now (t2 .entry)) (now (block .entry)) (challenge .0) ⌝ }
 {
     inversion::invert_neighbours(t, t2, out);
     lines::draw(t, block, challenge, out);
@@ -128,7 +129,7 @@ pub fn fold(
     challenge: u32,
     out: &mut [u32],
 ) -> Answer
-    ensures { λ r. ⌜ Folded level rate (now (t .entry)) (now (t2 .entry)) (now (block .entry)) challenge (now (out .entry)) r (now (out .exit)) ⌝ }
+    ensures { λ r. ⌜ Folded 𝔽₁ level rate (now (t .entry)) (now (t2 .entry)) (now (block .entry)) challenge (now (out .entry)) r (now (out .exit)) ⌝ }
 {
     let answer = judge(level, rate, t, t2, block, challenge, out.len());
     if let Answer::Done = answer {

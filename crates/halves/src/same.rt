@@ -2,6 +2,7 @@
 // a block that has to be the codeword of the left half.
 ghost use mathlib.Core.Path.{_≡_};
 ghost use Prim.Native.Nat.{suc, _≤_};
+ghost use Rattle.algebra.specs.Words.{𝔽₁};
 ghost use Rattle.job.specs.Limits.{maxDepth, maxRate};
 ghost use Rattle.residue.specs.Residues.{elem};
 ghost use Rattle.halves.specs.Steps.{WordLent, wordSame, LevelAt, TopLent, CheckLent, Stepped, sameLent, sameRest, Checked};
@@ -13,8 +14,8 @@ use residue::entry;
 
 // Whether b is a times the row.
 fn word_same(a: Residue, g: &[u32], b: &[u32]) -> bool
-    requires { ⌜ WordLent a (now g) (now b) ⌝ }
-    ensures { λ r. ⌜ r ≡ wordSame (elem a) (now (g .entry)) (now (b .entry)) ⌝ }
+    requires { ⌜ WordLent 𝔽₁ a (now g) (now b) ⌝ }
+    ensures { λ r. ⌜ r ≡ wordSame 𝔽₁ (elem a) (now (g .entry)) (now (b .entry)) ⌝ }
 {
     let mut ok = true;
     let mut i = 0;
@@ -56,8 +57,8 @@ fn top_step(
     block: &[u32],
     work: &mut [u32],
 ) -> bool
-    requires { ⌜ TopLent low m (now g) (now t) (now t2) (now block) (now work) ⌝ }
-    ensures { λ r. ⌜ Stepped low m (now (g .entry)) (now (t .entry)) (now (t2 .entry)) (sameLent (suc low) (now (g .entry)) (now (t .entry)) (now (t2 .entry)) (now (block .entry)) (now (work .entry))) (now (work .entry)) r (now (work .exit)) ⌝ }
+    requires { ⌜ TopLent 𝔽₁ low m (now g) (now t) (now t2) (now block) (now work) ⌝ }
+    ensures { λ r. ⌜ Stepped 𝔽₁ low m (now (g .entry)) (now (t .entry)) (now (t2 .entry)) (sameLent 𝔽₁ (suc low) (now (g .entry)) (now (t .entry)) (now (t2 .entry)) (now (block .entry)) (now (work .entry))) (now (work .entry)) r (now (work .exit)) ⌝ }
 {
     let p = level_place(low, g.len());
     let off = p.off;
@@ -69,8 +70,8 @@ fn top_step(
 
 // The step from the block of level low + 1 that begins at m to level `low`.
 fn step(low: u32, m: usize, g: &[u32], t: &[u32], t2: &[u32], work: &mut [u32]) -> bool
-    requires { ⌜ CheckLent (suc low) m (now g) (now t) (now t2) (now work) ⌝ }
-    ensures { λ r. ⌜ Stepped low m (now (g .entry)) (now (t .entry)) (now (t2 .entry)) (sameRest (suc low) m (now (g .entry)) (now (t .entry)) (now (t2 .entry)) (now (work .entry))) (now (work .entry)) r (now (work .exit)) ⌝ }
+    requires { ⌜ CheckLent 𝔽₁ (suc low) m (now g) (now t) (now t2) (now work) ⌝ }
+    ensures { λ r. ⌜ Stepped 𝔽₁ low m (now (g .entry)) (now (t .entry)) (now (t2 .entry)) (sameRest 𝔽₁ (suc low) m (now (g .entry)) (now (t .entry)) (now (t2 .entry)) (now (work .entry))) (now (work .entry)) r (now (work .exit)) ⌝ }
 {
     let p = level_place(low, g.len());
     let off = p.off;
@@ -84,8 +85,8 @@ fn step(low: u32, m: usize, g: &[u32], t: &[u32], t2: &[u32], work: &mut [u32]) 
 // Whether the block of a level that begins at m is the codeword of the message of that level in front. A loop, since a call of itself at each level would take
 // too much stack.
 fn check(level: u32, m: usize, g: &[u32], t: &[u32], t2: &[u32], work: &mut [u32]) -> bool
-    requires { ⌜ CheckLent level m (now g) (now t) (now t2) (now work) ⌝ }
-    ensures { λ r. ⌜ Checked level m (now (g .entry)) (now (t .entry)) (now (t2 .entry)) (now (work .entry)) r (now (work .exit)) ⌝ }
+    requires { ⌜ CheckLent 𝔽₁ level m (now g) (now t) (now t2) (now work) ⌝ }
+    ensures { λ r. ⌜ Checked 𝔽₁ level m (now (g .entry)) (now (t .entry)) (now (t2 .entry)) (now (work .entry)) r (now (work .exit)) ⌝ }
 {
     let mut i = level;
     while i > 0 {
@@ -106,8 +107,8 @@ pub fn same_codeword(
     block: &[u32],
     work: &mut [u32],
 ) -> bool
-    requires { ⌜ CompareInput depth (now g) (now t) (now t2) (now block) (now work) ⌝ }
-    ensures { λ r. ⌜ Compared depth (now (g .entry)) (now (t .entry)) (now (t2 .entry)) (now (block .entry)) (now (work .entry)) r (now (work .exit)) ⌝ }
+    requires { ⌜ CompareInput 𝔽₁ depth (now g) (now t) (now t2) (now block) (now work) ⌝ }
+    ensures { λ r. ⌜ Compared 𝔽₁ depth (now (g .entry)) (now (t .entry)) (now (t2 .entry)) (now (block .entry)) (now (work .entry)) r (now (work .exit)) ⌝ }
 {
     if depth == 0 {
         return word_same(Residue::new(work[0]), g, block);

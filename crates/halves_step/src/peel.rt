@@ -2,13 +2,14 @@
 // left half, and then v is (u - t r) + t2 r.
 ghost use Prim.Native.Nat.{_+_};
 ghost use lib.ListN.{length, take, drop};
+ghost use Rattle.algebra.specs.Words.{𝔽₁};
 ghost use Rattle.halves_step.specs.Steps.{LentPeel, FrontPeel, Peeled};
 use residue::entry;
 
 // Of a block that is lent, with r in out: out becomes u - t r. Whether that gives v.
 pub fn peel_lent(t: &[u32], t2: &[u32], block: &[u32], out: &mut [u32]) -> bool
-    requires { ⌜ LentPeel (now t) (now t2) (now block) (now out) ⌝ }
-    ensures { λ ok. ⌜ Peeled (now (t .entry)) (now (t2 .entry)) (take (length (now (t .entry))) (now (block .entry))) (drop (length (now (t .entry))) (now (block .entry))) (now (out .entry)) ok (now (out .exit)) ⌝ }
+    requires { ⌜ LentPeel 𝔽₁ (now t) (now t2) (now block) (now out) ⌝ }
+    ensures { λ ok. ⌜ Peeled 𝔽₁ (now (t .entry)) (now (t2 .entry)) (take (length (now (t .entry))) (now (block .entry))) (drop (length (now (t .entry))) (now (block .entry))) (now (out .entry)) ok (now (out .exit)) ⌝ }
 {
     let n = t.len();
     let mut ok = true;
@@ -26,8 +27,8 @@ pub fn peel_lent(t: &[u32], t2: &[u32], block: &[u32], out: &mut [u32]) -> bool
 
 // Of a block in front of w, with r behind it: u becomes u - t r. Whether that gives v.
 pub fn peel_front(t: &[u32], t2: &[u32], w: &mut [u32]) -> bool
-    requires { ⌜ FrontPeel (now t) (now t2) (now w) ⌝ }
-    ensures { λ ok. ⌜ Peeled (now (t .entry)) (now (t2 .entry)) (take (length (now (t .entry))) (now (w .entry))) (take (length (now (t .entry))) (drop (length (now (t .entry))) (now (w .entry)))) (drop (length (now (t .entry)) + length (now (t .entry))) (now (w .entry))) ok (take (length (now (t .entry))) (now (w .exit))) ⌝ }
+    requires { ⌜ FrontPeel 𝔽₁ (now t) (now t2) (now w) ⌝ }
+    ensures { λ ok. ⌜ Peeled 𝔽₁ (now (t .entry)) (now (t2 .entry)) (take (length (now (t .entry))) (now (w .entry))) (take (length (now (t .entry))) (drop (length (now (t .entry))) (now (w .entry)))) (drop (length (now (t .entry)) + length (now (t .entry))) (now (w .entry))) ok (take (length (now (t .entry))) (now (w .exit))) ⌝ }
 {
     let n = t.len();
     let mut ok = true;

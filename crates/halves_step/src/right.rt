@@ -1,4 +1,5 @@
 // The codeword of the right half of a message that stands in front of a slice, written behind the message in the same slice.
+ghost use Rattle.algebra.specs.Words.{𝔽₁};
 ghost use Rattle.halves_step.specs.Steps.{RightLent, RightSpread, CodeLent, RightWritten};
 use code::lift;
 use code::spread;
@@ -6,8 +7,8 @@ use residue::Residue;
 
 // The base blocks of the words from n on, from b on.
 fn spread_right(n: usize, b: usize, g: &[u32], work: &mut [u32])
-    requires { ⌜ RightLent n b (now g) (now work) ⌝ }
-    ensures { λ _. ⌜ RightSpread n b (now (g .entry)) (now (work .entry)) (now (work .exit)) ⌝ }
+    requires { ⌜ RightLent 𝔽₁ n b (now g) (now work) ⌝ }
+    ensures { λ _. ⌜ RightSpread 𝔽₁ n b (now (g .entry)) (now (work .entry)) (now (work .exit)) ⌝ }
 {
     let c = g.len();
     let mut i = 0;
@@ -24,8 +25,8 @@ fn spread_right(n: usize, b: usize, g: &[u32], work: &mut [u32])
 
 // The message has two halves of level `level`.
 pub fn write_right(level: u32, b: usize, g: &[u32], t: &[u32], t2: &[u32], work: &mut [u32])
-    requires { ⌜ CodeLent level b (now g) (now t) (now t2) (now work) ⌝ }
-    ensures { λ _. ⌜ RightWritten level b (now (g .entry)) (now (t .entry)) (now (t2 .entry)) (now (work .entry)) (now (work .exit)) ⌝ }
+    requires { ⌜ CodeLent 𝔽₁ level b (now g) (now t) (now t2) (now work) ⌝ }
+    ensures { λ _. ⌜ RightWritten 𝔽₁ level b (now (g .entry)) (now (t .entry)) (now (t2 .entry)) (now (work .entry)) (now (work .exit)) ⌝ }
 {
     let n = job::message_len(level);
     spread_right(n, b, g, work);

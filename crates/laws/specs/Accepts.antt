@@ -13,9 +13,11 @@ use native.Mathlib.Omega.{arith}
 use lib.Dec.{eqb, ltb}
 use lib.ListN.{length, getD}
 use borrow.Author.Tests.{eqb-true}
+use Rattle.algebra.specs.Ring.{Ring}
+use Rattle.algebra.specs.Field.{Field}
 use Rattle.algebra.specs.Numerals.{num}
 use Rattle.algebra.specs.Tests.{and-both}
-use Rattle.algebra.specs.Words.{𝔽₁}
+use Rattle.algebra.specs.Words.{Words, PrimeField}
 use Rattle.algebra.specs.WordLists.{elements, length-elements, getD-elements}
 use Rattle.foldable.specs.Code.{size, encode, line}
 use Rattle.multilinear.specs.Corners.{eq}
@@ -32,7 +34,6 @@ use Rattle.basefold.specs.Accepts.{none-fails-exactly}
 use Rattle.job.specs.Outcome.{Outcome, refused, done, _⨾_}
 use Rattle.job.specs.OutcomeLaws.{require-done, held, both, require-number, after-number}
 use Rattle.job.specs.Limits.{blockSize}
-use Rattle.residue.specs.Residues.{F, K, el, inv, _⊞_, _⊠_}
 use Rattle.parameters.specs.Lent.{lent, diagonal}
 use Rattle.parameters.specs.Parameters.{limits, rowLengths, judgeRow}
 use Rattle.parameters.specs.ParameterLaws.{row-lengths, judge-number}
@@ -73,116 +74,124 @@ accepted-split (refused n) f p e = absurd (omega (arith, p n refl .0, ap (λ x. 
 accepted-split (done tt) none p e = (refl, refl)
 accepted-split (done tt) (some c) p e = absurd (omega (arith, check-least c, ap (λ x. x .0) e))
 
-module _ (d c : ℕ) (g t t' w z : List ℕ) (y : ℕ) (r us o : List ℕ) where
-  abbrev judged : Outcome (Unit {0})
-  judged = judgeVerifying d c g t t' w z y r us o
+module _ (𝓕 : PrimeField) where
+  infixl 65 _⊞_
+  infixl 70 _⊠_
+  open PrimeField 𝓕 using (field as F, words as W)
+  open Field F using (ring as K, inv)
+  open Ring K using (_+_ as _⊞_, _*_ as _⊠_)
+  open Words W using (el)
 
-  refusals : (n : ℕ) → judged ≡ refused n → Number n
-  unfolding judgeVerifying
-  refusals n =
-      after-number Number (judgeRow d c g t t' lengths words) (judge-number Number (λ k lo hi. (lo, omega arith)) d c g t t' lengths words)
-      (require-number Number (queriesOk d c us) 7 (omega arith, omega arith))
-    where
-      lengths : Bool
-      lengths = openedLengths d c (length g) (length t) (length t') (length w) (length z) (length r) (length o)
+  module _ (d c : ℕ) (g t t' w z : List ℕ) (y : ℕ) (r us o : List ℕ) where
+    abbrev judged : Outcome (Unit {0})
+    judged = judgeVerifying 𝓕 d c g t t' w z y r us o
 
-      words : Bool
-      words = openedWords g t t' w z y r o
+    refusals : (n : ℕ) → judged ≡ refused n → Number n
+    unfolding judgeVerifying
+    refusals n =
+        after-number Number (judgeRow d c g t t' lengths words) (judge-number Number (λ k lo hi. (lo, omega arith)) d c g t t' lengths words)
+        (require-number Number (queriesOk d c us) 7 (omega arith, omega arith))
+      where
+        lengths : Bool
+        lengths = openedLengths d c (length g) (length t) (length t') (length w) (length z) (length r) (length o)
 
-  -- what the equations need of the lengths and queries
-  known : judged ≡ done tt → (length g ≡ c) × (length r ≡ d) × (length o ≡ openingSize c 0 d) × (queriesOk d c us ≡ true)
-  unfolding judgeVerifying openedLengths
-  known e =
-      let j = both (judgeRow d c g t t' (openedLengths d c (length g) (length t) (length t') (length w) (length z) (length r) (length o)) (openedWords g t t' w z y r o)) e in
-      let a = both (limits d c) (j .0) in
-      let b = require-done (openedLengths d c (length g) (length t) (length t') (length w) (length z) (length r) (length o)) 3 (a .1) in
-      let l = and-both (rowLengths d c (length g) (length t) (length t')) _ (b .0) in
-      let l₂ = and-both (eqb (length w) (blockSize c d)) _ (l .1) in
-      let l₃ = and-both (eqb (length z) d) _ (l₂ .1) in
-      let l₄ = and-both (eqb (length r) d) _ (l₃ .1) in
-      (row-lengths d c (length g) (length t) (length t') (l .0) .row, eqb-true _ _ (l₄ .0), eqb-true _ _ (l₄ .1), held (queriesOk d c us) 7 (j .1))
+        words : Bool
+        words = openedWords 𝓕 g t t' w z y r o
 
-  module _ (rate : length g ≡ c) (challenges : length r ≡ d) (long : length o ≡ openingSize c 0 d) where
-    depth : length (elements 𝔽₁ r) ≡ d
-    depth = length-elements 𝔽₁ r ∙ challenges
+    -- what the equations need of the lengths and queries
+    known : judged ≡ done tt → (length g ≡ c) × (length r ≡ d) × (length o ≡ openingSize c 0 d) × (queriesOk d c us ≡ true)
+    unfolding judgeVerifying openedLengths
+    known e =
+        let j = both (judgeRow d c g t t' (openedLengths d c (length g) (length t) (length t') (length w) (length z) (length r) (length o)) (openedWords 𝓕 g t t' w z y r o)) e in
+        let a = both (limits d c) (j .0) in
+        let b = require-done (openedLengths d c (length g) (length t) (length t') (length w) (length z) (length r) (length o)) 3 (a .1) in
+        let l = and-both (rowLengths d c (length g) (length t) (length t')) _ (b .0) in
+        let l₂ = and-both (eqb (length w) (blockSize c d)) _ (l .1) in
+        let l₃ = and-both (eqb (length z) d) _ (l₂ .1) in
+        let l₄ = and-both (eqb (length r) d) _ (l₃ .1) in
+        (row-lengths d c (length g) (length t) (length t') (l .0) .row, eqb-true _ _ (l₄ .0), eqb-true _ _ (l₄ .1), held (queriesOk d c us) 7 (j .1))
 
-    width : length (elements 𝔽₁ g) ≡ c
-    width = length-elements 𝔽₁ g ∙ rate
+    module _ (rate : length g ≡ c) (challenges : length r ≡ d) (long : length o ≡ openingSize c 0 d) where
+      depth : length (elements 𝓕 r) ≡ d
+      depth = length-elements 𝓕 r ∙ challenges
 
-    sent-is : (i k : ℕ) → sent F (elements 𝔽₁ o) (length (elements 𝔽₁ r)) i k ≡ sentElement d o i k
-    sent-is i k = ap (λ n. getD (elements 𝔽₁ o) (roundAt n i + k) (K .𝟘)) depth ∙ getD-elements 𝔽₁ o (roundAt d i + k)
+      width : length (elements 𝓕 g) ≡ c
+      width = length-elements 𝓕 g ∙ rate
 
-    claim-is : (i : ℕ) → claim F (elements 𝔽₁ o) (elements 𝔽₁ r) (el y) i ≡ claimed d y r o i
-    claim-is i = λ k. cond (ltb i (depth k)) (through K (inv (num K 2)) (sent-is (suc i) 0 k) (sent-is (suc i) 1 k) (sent-is (suc i) 2 k) (getD-elements 𝔽₁ r i k)) (el y)
+      sent-is : (i k : ℕ) → sent F (elements 𝓕 o) (length (elements 𝓕 r)) i k ≡ sentElement 𝓕 d o i k
+      sent-is i k = ap (λ n. getD (elements 𝓕 o) (roundAt n i + k) (K .𝟘)) depth ∙ getD-elements 𝓕 o (roundAt d i + k)
 
-    carried-is : carried F 0 (elements 𝔽₁ o) (length (elements 𝔽₁ r)) ≡ finalElement d o ∷ []
-    carried-is =
-        ap (carried F 0 (elements 𝔽₁ o)) depth
-        ∙ carried-plain F (elements 𝔽₁ o) d (omega (arith, length-elements 𝔽₁ o))
-        ∙ ap (λ v. v ∷ []) (getD-elements 𝔽₁ o (finalAt d))
+      claim-is : (i : ℕ) → claim F (elements 𝓕 o) (elements 𝓕 r) (el y) i ≡ claimed 𝓕 d y r o i
+      claim-is i = λ k. cond (ltb i (depth k)) (through K (inv (num K 2)) (sent-is (suc i) 0 k) (sent-is (suc i) 1 k) (sent-is (suc i) 2 k) (getD-elements 𝓕 r i k)) (el y)
 
-    block-is : (i u : ℕ) → getD (blockOf (length (elements 𝔽₁ g)) 0 (length (elements 𝔽₁ r)) (elements 𝔽₁ w) (elements 𝔽₁ o) i) u (K .𝟘) ≡ blockElement d c w o i u
-    block-is i u =
-        ap₂ (λ n m. getD (blockOf n 0 m (elements 𝔽₁ w) (elements 𝔽₁ o) i) u (K .𝟘)) width depth
-        ∙ ap (λ b. getD b u (K .𝟘)) (sym (elements-block 𝔽₁ c 0 d w o i)) ∙ getD-elements 𝔽₁ (blockOf c 0 d w o i) u
+      carried-is : carried F 0 (elements 𝓕 o) (length (elements 𝓕 r)) ≡ finalElement 𝓕 d o ∷ []
+      carried-is =
+          ap (carried F 0 (elements 𝓕 o)) depth
+          ∙ carried-plain F (elements 𝓕 o) d (omega (arith, length-elements 𝓕 o))
+          ∙ ap (λ v. v ∷ []) (getD-elements 𝓕 o (finalAt d))
 
-    diagonal-is : (s : List ℕ) (i u : ℕ) → getD (elements 𝔽₁ (diagonal (length g) s i)) u (K .𝟘) ≡ el (getD (diagonal c s i) u 0)
-    diagonal-is s i u = getD-elements 𝔽₁ (diagonal (length g) s i) u ∙ ap (λ n. el (getD (diagonal n s i) u 0)) rate
+      block-is : (i u : ℕ) → getD (blockOf (length (elements 𝓕 g)) 0 (length (elements 𝓕 r)) (elements 𝓕 w) (elements 𝓕 o) i) u (K .𝟘) ≡ blockElement 𝓕 d c w o i u
+      block-is i u =
+          ap₂ (λ n m. getD (blockOf n 0 m (elements 𝓕 w) (elements 𝓕 o) i) u (K .𝟘)) width depth
+          ∙ ap (λ b. getD b u (K .𝟘)) (sym (elements-block 𝓕 c 0 d w o i)) ∙ getD-elements 𝓕 (blockOf c 0 d w o i) u
 
-    final-is : finalSum K 0 (carried F 0 (elements 𝔽₁ o) (length (elements 𝔽₁ r))) (elements 𝔽₁ z) (elements 𝔽₁ r) ≡ finalElement d o ⊠ eq K (elements 𝔽₁ z) (elements 𝔽₁ r)
-    final-is = ap (λ v. finalSum K 0 v (elements 𝔽₁ z) (elements 𝔽₁ r)) carried-is ∙ finalSum-plain K (finalElement d o) (elements 𝔽₁ z) (elements 𝔽₁ r)
+      diagonal-is : (s : List ℕ) (i u : ℕ) → getD (elements 𝓕 (diagonal (length g) s i)) u (K .𝟘) ≡ el (getD (diagonal c s i) u 0)
+      diagonal-is s i u = getD-elements 𝓕 (diagonal (length g) s i) u ∙ ap (λ n. el (getD (diagonal n s i) u 0)) rate
 
-    base-is : (j : ℕ) → getD (encode F (lent g t t') 0 (carried F 0 (elements 𝔽₁ o) (length (elements 𝔽₁ r)))) j (K .𝟘) ≡ finalElement d o ⊠ el (getD g j 0)
-    base-is j =
-        ap (λ v. getD (encode F (lent g t t') 0 v) j (K .𝟘)) carried-is
-        ∙ base-plain F (elements 𝔽₁ g) _ _ (finalElement d o) j ∙ ap (λ a. finalElement d o ⊠ a) (getD-elements 𝔽₁ g j)
+      final-is : finalSum K 0 (carried F 0 (elements 𝓕 o) (length (elements 𝓕 r))) (elements 𝓕 z) (elements 𝓕 r) ≡ finalElement 𝓕 d o ⊠ eq K (elements 𝓕 z) (elements 𝓕 r)
+      final-is = ap (λ v. finalSum K 0 v (elements 𝓕 z) (elements 𝓕 r)) carried-is ∙ finalSum-plain K (finalElement 𝓕 d o) (elements 𝓕 z) (elements 𝓕 r)
 
-    line-is : (i u : ℕ) → line F (getD (elements 𝔽₁ r) i (K .𝟘)) (getD (elements 𝔽₁ (diagonal (length g) t i)) u (K .𝟘)) (getD (elements 𝔽₁ (diagonal (length g) t' i)) u (K .𝟘))
-        (getD (blockOf (length (elements 𝔽₁ g)) 0 (length (elements 𝔽₁ r)) (elements 𝔽₁ w) (elements 𝔽₁ o) (suc i)) u (K .𝟘))
-        (getD (blockOf (length (elements 𝔽₁ g)) 0 (length (elements 𝔽₁ r)) (elements 𝔽₁ w) (elements 𝔽₁ o) (suc i)) (size F (lent g t t') i + u) (K .𝟘))
-        ≡ line F (el (getD r i 0)) (el (getD (diagonal c t i) u 0)) (el (getD (diagonal c t' i) u 0)) (blockElement d c w o (suc i) u) (blockElement d c w o (suc i) (u + blockSize c i))
-    line-is i u =
-        let far : size F (lent g t t') i + u ≡ u + blockSize c i = add-comm (size F (lent g t t') i) u ∙ ap (λ n. u + blockSize n i) width in
-        λ k. line F (getD-elements 𝔽₁ r i k) (diagonal-is t i u k) (diagonal-is t' i u k) (block-is (suc i) u k)
-        ((block-is (suc i) (size F (lent g t t') i + u) ∙ ap (blockElement d c w o (suc i)) far) k)
+      base-is : (j : ℕ) → getD (encode F (lent 𝓕 g t t') 0 (carried F 0 (elements 𝓕 o) (length (elements 𝓕 r)))) j (K .𝟘) ≡ finalElement 𝓕 d o ⊠ el (getD g j 0)
+      base-is j =
+          ap (λ v. getD (encode F (lent 𝓕 g t t') 0 v) j (K .𝟘)) carried-is
+          ∙ base-plain F (elements 𝓕 g) _ _ (finalElement 𝓕 d o) j ∙ ap (λ a. finalElement 𝓕 d o ⊠ a) (getD-elements 𝓕 g j)
 
-    equations : Equations F 0 (lent g t t') (elements 𝔽₁ w) (elements 𝔽₁ z) (el y) (elements 𝔽₁ r) us (elements 𝔽₁ o) ↔ Accepts d c g t t' w z y r us o
-    equations = (
-      λ e. record {
-        sum = λ i l m. sym (ap₂ _⊞_ (sent-is i 0) (sent-is i 1)) ∙ e .sum i l (omega (arith, depth)) ∙ claim-is i;
-        final = sym final-is ∙ e .final ∙ claim-is 0;
-        base = λ j l. sym (block-is 0 j) ∙ e .base j (omega (arith, width)) ∙ base-is j;
-        fold = λ q i u l m p. sym (line-is i u) ∙ e .fold q i u l (omega (arith, depth)) (p ∙ ap (λ n. placeAt n (getD us q 0) i) (sym width)) ∙ block-is i u;
-      },
-      λ a. record {
-        sum = λ i l m. ap₂ _⊞_ (sent-is i 0) (sent-is i 1) ∙ a .sum i l (omega (arith, depth)) ∙ sym (claim-is i);
-        final = final-is ∙ a .final ∙ sym (claim-is 0);
-        base = λ j l. block-is 0 j ∙ a .base j (omega (arith, width)) ∙ sym (base-is j);
-        fold = λ q i u l m p. line-is i u ∙ a .fold q i u l (omega (arith, depth)) (p ∙ ap (λ n. placeAt n (getD us q 0) i) width) ∙ sym (block-is i u);
-      },
+      line-is : (i u : ℕ) → line F (getD (elements 𝓕 r) i (K .𝟘)) (getD (elements 𝓕 (diagonal (length g) t i)) u (K .𝟘)) (getD (elements 𝓕 (diagonal (length g) t' i)) u (K .𝟘))
+          (getD (blockOf (length (elements 𝓕 g)) 0 (length (elements 𝓕 r)) (elements 𝓕 w) (elements 𝓕 o) (suc i)) u (K .𝟘))
+          (getD (blockOf (length (elements 𝓕 g)) 0 (length (elements 𝓕 r)) (elements 𝓕 w) (elements 𝓕 o) (suc i)) (size F (lent 𝓕 g t t') i + u) (K .𝟘))
+          ≡ line F (el (getD r i 0)) (el (getD (diagonal c t i) u 0)) (el (getD (diagonal c t' i) u 0)) (blockElement 𝓕 d c w o (suc i) u) (blockElement 𝓕 d c w o (suc i) (u + blockSize c i))
+      line-is i u =
+          let far : size F (lent 𝓕 g t t') i + u ≡ u + blockSize c i = add-comm (size F (lent 𝓕 g t t') i) u ∙ ap (λ n. u + blockSize n i) width in
+          λ k. line F (getD-elements 𝓕 r i k) (diagonal-is t i u k) (diagonal-is t' i u k) (block-is (suc i) u k)
+          ((block-is (suc i) (size F (lent 𝓕 g t t') i + u) ∙ ap (blockElement 𝓕 d c w o (suc i)) far) k)
+
+      equations : Equations F 0 (lent 𝓕 g t t') (elements 𝓕 w) (elements 𝓕 z) (el y) (elements 𝓕 r) us (elements 𝓕 o) ↔ (Accepts 𝓕) d c g t t' w z y r us o
+      equations = (
+        λ e. record {
+          sum = λ i l m. sym (ap₂ _⊞_ (sent-is i 0) (sent-is i 1)) ∙ e .sum i l (omega (arith, depth)) ∙ claim-is i;
+          final = sym final-is ∙ e .final ∙ claim-is 0;
+          base = λ j l. sym (block-is 0 j) ∙ e .base j (omega (arith, width)) ∙ base-is j;
+          fold = λ q i u l m p. sym (line-is i u) ∙ e .fold q i u l (omega (arith, depth)) (p ∙ ap (λ n. placeAt n (getD us q 0) i) (sym width)) ∙ block-is i u;
+        },
+        λ a. record {
+          sum = λ i l m. ap₂ _⊞_ (sent-is i 0) (sent-is i 1) ∙ a .sum i l (omega (arith, depth)) ∙ sym (claim-is i);
+          final = final-is ∙ a .final ∙ sym (claim-is 0);
+          base = λ j l. block-is 0 j ∙ a .base j (omega (arith, width)) ∙ sym (base-is j);
+          fold = λ q i u l m p. line-is i u ∙ a .fold q i u l (omega (arith, depth)) (p ∙ ap (λ n. placeAt n (getD us q 0) i) width) ∙ sym (block-is i u);
+        },
+      )
+
+    none-exactly : judged ≡ done tt
+        → (firstFailure (checks F 0 (lent 𝓕 g t t') (elements 𝓕 w) (elements 𝓕 z) (el y) (elements 𝓕 r) us (elements 𝓕 o)) ≡ none) ↔ (Accepts 𝓕) d c g t t' w z y r us o
+    none-exactly e =
+        let k = known e in
+        let legal : Queries (length (elements 𝓕 g)) (length (elements 𝓕 r)) us = rw (depth (k .0) (k .1) (k .2)) (legal-queries (length (elements 𝓕 g)) d c us (width (k .0) (k .1) (k .2)) (k .3)) in
+        Iff·trans (none-fails-exactly F 0 (lent 𝓕 g t t') (elements 𝓕 w) (elements 𝓕 z) (el y) (elements 𝓕 r) us (elements 𝓕 o) legal) (equations (k .0) (k .1) (k .2))
+
+    -- the verifier answers 0 exactly when nothing is refused and every equation holds
+    pub accepts-exactly : (numbersOf (verification 𝓕 d c g t t' w z y r us o) ≡ (0, 0, 0)) ↔ ((judgeVerifying 𝓕 d c g t t' w z y r us o ≡ done tt) × Accepts 𝓕 d c g t t' w z y r us o)
+    unfolding verification
+    accepts-exactly = (
+      λ e. let s = accepted-split judged _ refusals e in (s .0, none-exactly (s .0) .0 (s .1)),
+      λ h. ap₂ (λ j f. numbersOf (j ⨾ done f)) (h .0) (none-exactly (h .0) .1 (h .1)),
     )
 
-  none-exactly : judged ≡ done tt
-      → (firstFailure (checks F 0 (lent g t t') (elements 𝔽₁ w) (elements 𝔽₁ z) (el y) (elements 𝔽₁ r) us (elements 𝔽₁ o)) ≡ none) ↔ Accepts d c g t t' w z y r us o
-  none-exactly e =
-      let k = known e in
-      let legal : Queries (length (elements 𝔽₁ g)) (length (elements 𝔽₁ r)) us = rw (depth (k .0) (k .1) (k .2)) (legal-queries (length (elements 𝔽₁ g)) d c us (width (k .0) (k .1) (k .2)) (k .3)) in
-      Iff·trans (none-fails-exactly F 0 (lent g t t') (elements 𝔽₁ w) (elements 𝔽₁ z) (el y) (elements 𝔽₁ r) us (elements 𝔽₁ o) legal) (equations (k .0) (k .1) (k .2))
-
-  -- the verifier answers 0 exactly when nothing is refused and every equation holds
-  pub accepts-exactly : (numbersOf (verification d c g t t' w z y r us o) ≡ (0, 0, 0)) ↔ ((judgeVerifying d c g t t' w z y r us o ≡ done tt) × Accepts d c g t t' w z y r us o)
-  unfolding verification
-  accepts-exactly = (
-    λ e. let s = accepted-split judged _ refusals e in (s .0, none-exactly (s .0) .0 (s .1)),
-    λ h. ap₂ (λ j f. numbersOf (j ⨾ done f)) (h .0) (none-exactly (h .0) .1 (h .1)),
-  )
-
-  -- the verifier names a check exactly when nothing is refused and that check is the first that fails
-  pub rejects-exactly : (k : Check) → (numbersOf (verification d c g t t' w z y r us o) ≡ checkNumbers k)
-      ↔ ((judgeVerifying d c g t t' w z y r us o ≡ done tt) × FailsFirst (checks F 0 (lent g t t') (elements 𝔽₁ w) (elements 𝔽₁ z) (el y) (elements 𝔽₁ r) us (elements 𝔽₁ o)) k)
-  unfolding verification
-  rejects-exactly k =
-      let e = first-exactly (checks F 0 (lent g t t') (elements 𝔽₁ w) (elements 𝔽₁ z) (el y) (elements 𝔽₁ r) us (elements 𝔽₁ o)) k in (
-        λ q. let s = named-split judged _ k refusals q in (s .0, e .0 (s .1)),
-        λ h. ap₂ (λ j f. numbersOf (j ⨾ done f)) (h .0) (e .1 (h .1)),
-      )
+    -- the verifier names a check exactly when nothing is refused and that check is the first that fails
+    pub rejects-exactly : (k : Check) → (numbersOf (verification 𝓕 d c g t t' w z y r us o) ≡ checkNumbers k)
+        ↔ ((judgeVerifying 𝓕 d c g t t' w z y r us o ≡ done tt) × FailsFirst (checks F 0 (lent 𝓕 g t t') (elements 𝓕 w) (elements 𝓕 z) (el y) (elements 𝓕 r) us (elements 𝓕 o)) k)
+    unfolding verification
+    rejects-exactly k =
+        let e = first-exactly (checks F 0 (lent 𝓕 g t t') (elements 𝓕 w) (elements 𝓕 z) (el y) (elements 𝓕 r) us (elements 𝓕 o)) k in (
+          λ q. let s = named-split judged _ k refusals q in (s .0, e .0 (s .1)),
+          λ h. ap₂ (λ j f. numbersOf (j ⨾ done f)) (h .0) (e .1 (h .1)),
+        )

@@ -5,71 +5,22 @@ use mathlib.Core.Logic.{_↔_, _⊎_}
 use mathlib.Core.List.{List}
 use Prim.Native.Nat.{ℕ, suc, _^_}
 use lib.ListN.{length, take, drop}
+use Rattle.algebra.specs.Field.{Field}
 use Rattle.algebra.specs.Vector.{Vectors, vectors}
-use Rattle.algebra.specs.Words.{𝔽₁}
+use Rattle.algebra.specs.Words.{Words, PrimeField}
 use Rattle.algebra.specs.WordLists.{Low, elements, toWords}
 use Rattle.job.specs.declared.Answer.{Answer}
 use Rattle.job.specs.Outcome.{refused, done, outcome}
 use Rattle.job.specs.Limits.{blockSize, diagonalsSize}
-use Rattle.residue.specs.Residues.{P, K, el}
 use Rattle.parameters.specs.Lent.{diagonal}
 use Rattle.parameters.specs.Parameters.{limits, rowLengths, rowWords, legalRow}
 use Rattle.code.specs.Encoding.{Encoded}
 use Rattle.fold.specs.Job.{foldWords, Folded}
 use Rattle.decode.specs.Decoding.{Decoded}
 
-infixl 66 _⊕_
-infixr 71 _⊛_
-open Vectors (vectors K) using (_⊕_, _⊛_)
-
--- no refusal is due for depth, rate, row and diagonals
-pub record LegalRow (d c : ℕ) (g t t' : List ℕ) : Type 0 where
-  pub within : limits d c ≡ done tt
-  pub lengths : rowLengths d c (length g) (length t) (length t') ≡ true
-  pub words : rowWords g t t' ≡ true
-  pub legal : legalRow g t t' ≡ done tt
-
 -- the levels below depth i of the diagonals that a call of larger depth is lent
 abbrev pub levelsBelow : ℕ → ℕ → List ℕ → List ℕ
 levelsBelow c i t = take (diagonalsSize c i) t
-
--- what folding level i + 1 to level i writes, lent level i of the diagonals of all levels
-abbrev pub foldedLevel : ℕ → ℕ → List ℕ → List ℕ → List ℕ → ℕ → List ℕ
-foldedLevel c i t t' w a = foldWords (blockSize c i) (diagonal c t i) (diagonal c t' i) w a
-
--- left + challenge * right of a message of 2 n words
-abbrev pub mixed : ℕ → ℕ → List ℕ → List ℕ
-mixed n a m = toWords 𝔽₁ (elements 𝔽₁ (take n m) ⊕ el a ⊛ elements 𝔽₁ (drop n m))
-
--- calls with result and work buffers of exact length, whatever these held
-pub record ExactEncode (d c : ℕ) (g t t' m : List ℕ) (r : Answer) (out : List ℕ) : Type 0 where
-  pub old : List ℕ
-  pub sized : length old ≡ blockSize c d
-  pub call : Encoded d c g t t' m old r out
-
--- of level i + 1 to level i, lent level i of the diagonals of all levels
-pub record ExactFold (i c : ℕ) (t t' w : List ℕ) (a : ℕ) (r : Answer) (out : List ℕ) : Type 0 where
-  pub old : List ℕ
-  pub sized : length old ≡ blockSize c i
-  pub call : Folded (suc i) c (diagonal c t i) (diagonal c t' i) w a old r out
-
-pub record ExactDecode (d c : ℕ) (g t t' w : List ℕ) (r : Answer) : Type 0 where
-  pub old : List ℕ
-  pub space : List ℕ
-  pub out : List ℕ
-  pub work : List ℕ
-  pub sized : length old ≡ 2 ^ d
-  pub room : length space ≡ blockSize c d
-  pub call : Decoded d c g t t' w old space r out work
-
--- a block of level d, and a message of depth d, of residues
-pub record ResidueBlock (d c : ℕ) (w : List ℕ) : Type 0 where
-  pub sized : length w ≡ blockSize c d
-  pub low : Low P w
-
-pub record ResidueMessage (d : ℕ) (m : List ℕ) : Type 0 where
-  pub sized : length m ≡ 2 ^ d
-  pub low : Low P m
 
 -- a call of decoding that none of 1 to 6 refuses: the block is a codeword, or 8
 abbrev pub Decides : Answer → Type 0
@@ -83,3 +34,56 @@ pub record TwoChallenges (r fa fb ra rb : Answer) : Type 0 where
   pub first : Decides ra
   pub second : Decides rb
   pub exactly-both : (outcome r ≡ done tt) ↔ ((outcome ra ≡ done tt) × (outcome rb ≡ done tt))
+
+module _ (𝓕 : PrimeField) where
+  infixl 66 _⊕_
+  infixr 71 _⊛_
+  open PrimeField 𝓕 using (modulus as P, field as F, words as W)
+  open Field F using (ring as K)
+  open Words W using (el)
+  open Vectors (vectors K) using (_⊕_, _⊛_)
+
+  -- no refusal is due for depth, rate, row and diagonals
+  pub record LegalRow (d c : ℕ) (g t t' : List ℕ) : Type 0 where
+    pub within : limits d c ≡ done tt
+    pub lengths : rowLengths d c (length g) (length t) (length t') ≡ true
+    pub words : rowWords 𝓕 g t t' ≡ true
+    pub legal : legalRow g t t' ≡ done tt
+
+  -- what folding level i + 1 to level i writes, lent level i of the diagonals of all levels
+  abbrev pub foldedLevel : ℕ → ℕ → List ℕ → List ℕ → List ℕ → ℕ → List ℕ
+  foldedLevel c i t t' w a = foldWords 𝓕 (blockSize c i) (diagonal c t i) (diagonal c t' i) w a
+
+  -- left + challenge * right of a message of 2 n words
+  abbrev pub mixed : ℕ → ℕ → List ℕ → List ℕ
+  mixed n a m = toWords 𝓕 (elements 𝓕 (take n m) ⊕ el a ⊛ elements 𝓕 (drop n m))
+
+  -- calls with result and work buffers of exact length, whatever these held
+  pub record ExactEncode (d c : ℕ) (g t t' m : List ℕ) (r : Answer) (out : List ℕ) : Type 0 where
+    pub old : List ℕ
+    pub sized : length old ≡ blockSize c d
+    pub call : Encoded 𝓕 d c g t t' m old r out
+
+  -- of level i + 1 to level i, lent level i of the diagonals of all levels
+  pub record ExactFold (i c : ℕ) (t t' w : List ℕ) (a : ℕ) (r : Answer) (out : List ℕ) : Type 0 where
+    pub old : List ℕ
+    pub sized : length old ≡ blockSize c i
+    pub call : Folded 𝓕 (suc i) c (diagonal c t i) (diagonal c t' i) w a old r out
+
+  pub record ExactDecode (d c : ℕ) (g t t' w : List ℕ) (r : Answer) : Type 0 where
+    pub old : List ℕ
+    pub space : List ℕ
+    pub out : List ℕ
+    pub work : List ℕ
+    pub sized : length old ≡ 2 ^ d
+    pub room : length space ≡ blockSize c d
+    pub call : Decoded 𝓕 d c g t t' w old space r out work
+
+  -- a block of level d, and a message of depth d, of residues
+  pub record ResidueBlock (d c : ℕ) (w : List ℕ) : Type 0 where
+    pub sized : length w ≡ blockSize c d
+    pub low : Low P w
+
+  pub record ResidueMessage (d : ℕ) (m : List ℕ) : Type 0 where
+    pub sized : length m ≡ 2 ^ d
+    pub low : Low P m

@@ -5,8 +5,10 @@ use mathlib.Core.List.{List}
 use Prim.Native.Nat.{ℕ, suc, _+_, _<_, _≤_}
 use lib.Dec.{ltb}
 use lib.ListN.{length, getD}
+use Rattle.algebra.specs.Ring.{Ring}
+use Rattle.algebra.specs.Field.{Field}
 use Rattle.algebra.specs.Numerals.{num}
-use Rattle.algebra.specs.Words.{𝔽₁}
+use Rattle.algebra.specs.Words.{Words, PrimeField}
 use Rattle.algebra.specs.WordLists.{elements}
 use Rattle.foldable.specs.Code.{line}
 use Rattle.multilinear.specs.Corners.{eq}
@@ -14,36 +16,43 @@ use Rattle.multilinear.specs.Quadratic.{through}
 use Rattle.basefold.specs.Layout.{roundAt, finalAt, blockOf}
 use Rattle.basefold.specs.Equations.{placeAt}
 use Rattle.job.specs.Limits.{blockSize}
-use Rattle.residue.specs.Residues.{F, K, Element, el, inv, _⊞_, _⊠_}
 use Rattle.parameters.specs.Lent.{diagonal}
 
--- what the words of an opening o at depth d stand for: the value of h_i at k, v, and word u of the block of level i, where level d is w
-abbrev pub sentElement : ℕ → List ℕ → ℕ → ℕ → Element
-sentElement d o i k = el (getD o (roundAt d i + k) 0)
+module _ (𝓕 : PrimeField) where
+  infixl 65 _⊞_
+  infixl 70 _⊠_
+  open PrimeField 𝓕 using (field as F, words as W)
+  open Field F using (ring as K, inv)
+  open Ring K using (R as Element, _+_ as _⊞_, _*_ as _⊠_)
+  open Words W using (el)
 
-abbrev pub finalElement : ℕ → List ℕ → Element
-finalElement d o = el (getD o (finalAt d) 0)
+  -- what the words of an opening o at depth d stand for: the value of h_i at k, v, and word u of the block of level i, where level d is w
+  abbrev pub sentElement : ℕ → List ℕ → ℕ → ℕ → Element
+  sentElement d o i k = el (getD o (roundAt d i + k) 0)
 
-abbrev pub blockElement : (d c : ℕ) → (w o : List ℕ) → ℕ → ℕ → Element
-blockElement d c w o i u = el (getD (blockOf c 0 d w o i) u 0)
+  abbrev pub finalElement : ℕ → List ℕ → Element
+  finalElement d o = el (getD o (finalAt d) 0)
 
--- h_i(x), by its three values
-abbrev pub sentValue : ℕ → List ℕ → ℕ → Element → Element
-sentValue d o i x = through K (inv (num K 2)) (sentElement d o i 0) (sentElement d o i 1) (sentElement d o i 2) x
+  abbrev pub blockElement : (d c : ℕ) → (w o : List ℕ) → ℕ → ℕ → Element
+  blockElement d c w o i u = el (getD (blockOf c 0 d w o i) u 0)
 
--- claim i: y at i = d, and h_(i+1)(r_i) below
-abbrev pub claimed : ℕ → ℕ → (r o : List ℕ) → ℕ → Element
-claimed d y r o i = cond (ltb i d) (sentValue d o (suc i) (el (getD r i 0))) (el y)
+  -- h_i(x), by its three values
+  abbrev pub sentValue : ℕ → List ℕ → ℕ → Element → Element
+  sentValue d o i x = through K (inv (num K 2)) (sentElement d o i 0) (sentElement d o i 1) (sentElement d o i 2) x
 
-pub record Accepts (d c : ℕ) (g t t' w z : List ℕ) (y : ℕ) (r us o : List ℕ) : Type 0 where
-  -- sum i: h_i(0) + h_i(1) is claim i
-  pub sum : (i : ℕ) → 1 ≤ i → i ≤ d → sentElement d o i 0 ⊞ sentElement d o i 1 ≡ claimed d y r o i
-  -- final: v * eq(z, r) is claim 0
-  pub final : finalElement d o ⊠ eq K (elements 𝔽₁ z) (elements 𝔽₁ r) ≡ claimed d y r o 0
-  -- base j: block 0 holds v * g[j]
-  pub base : (j : ℕ) → j < c → blockElement d c w o 0 j ≡ finalElement d o ⊠ el (getD g j 0)
-  -- fold, query q, level i: at the query's place u the line through (T_i[u], block_(i+1)[u]) and (T'_i[u], block_(i+1)[u + n_i]) has at r_i the value block_i[u].
-  -- `place-first` and `place-next` of basefold/Accepts say that these places are the query, and each the next one of that above
-  pub fold : (q i u : ℕ) → q < length us → i < d → u ≡ placeAt c (getD us q 0) i
-      → line F (el (getD r i 0)) (el (getD (diagonal c t i) u 0)) (el (getD (diagonal c t' i) u 0)) (blockElement d c w o (suc i) u) (blockElement d c w o (suc i) (u + blockSize c i))
-      ≡ blockElement d c w o i u
+  -- claim i: y at i = d, and h_(i+1)(r_i) below
+  abbrev pub claimed : ℕ → ℕ → (r o : List ℕ) → ℕ → Element
+  claimed d y r o i = cond (ltb i d) (sentValue d o (suc i) (el (getD r i 0))) (el y)
+
+  pub record Accepts (d c : ℕ) (g t t' w z : List ℕ) (y : ℕ) (r us o : List ℕ) : Type 0 where
+    -- sum i: h_i(0) + h_i(1) is claim i
+    pub sum : (i : ℕ) → 1 ≤ i → i ≤ d → sentElement d o i 0 ⊞ sentElement d o i 1 ≡ claimed d y r o i
+    -- final: v * eq(z, r) is claim 0
+    pub final : finalElement d o ⊠ eq K (elements 𝓕 z) (elements 𝓕 r) ≡ claimed d y r o 0
+    -- base j: block 0 holds v * g[j]
+    pub base : (j : ℕ) → j < c → blockElement d c w o 0 j ≡ finalElement d o ⊠ el (getD g j 0)
+    -- fold, query q, level i: at the query's place u the line through (T_i[u], block_(i+1)[u]) and (T'_i[u], block_(i+1)[u + n_i]) has at r_i the value block_i[u].
+    -- `place-first` and `place-next` of basefold/Accepts say that these places are the query, and each the next one of that above
+    pub fold : (q i u : ℕ) → q < length us → i < d → u ≡ placeAt c (getD us q 0) i
+        → line F (el (getD r i 0)) (el (getD (diagonal c t i) u 0)) (el (getD (diagonal c t' i) u 0)) (blockElement d c w o (suc i) u) (blockElement d c w o (suc i) (u + blockSize c i))
+        ≡ blockElement d c w o i u

@@ -10,6 +10,7 @@ use native.Mathlib.Omega.{arith}
 use lib.Dec.{eqb}
 use lib.ListN.{length, replicate}
 use borrow.Author.Tests.{eqb-true}
+use Rattle.algebra.specs.Words.{PrimeField}
 use Rattle.algebra.specs.Tests.{and-both}
 use Rattle.algebra.specs.WordLists.{Low}
 use Rattle.basefold.specs.Checks.{Check}
@@ -19,7 +20,6 @@ use Rattle.job.specs.declared.Answer.{Answer}
 use Rattle.job.specs.Outcome.{Outcome, refused, done, number, outcome, kept, _⨾_}
 use Rattle.job.specs.OutcomeLaws.{require-done, both}
 use Rattle.job.specs.Limits.{blockSize}
-use Rattle.residue.specs.Residues.{P}
 use Rattle.residue.specs.Scans.{allBelow}
 use Rattle.residue.specs.ScanLaws.{all-below}
 use Rattle.parameters.specs.Lent.{codeword}
@@ -45,83 +45,86 @@ after-refusal : (j : Outcome (Unit {0})) (v : ℕ) (next : Outcome (Option Check
 after-refusal (refused k) v next {n} e = let same : n ≡ k = cc in ap (λ x. (x, 0, 0)) same
 after-refusal (done tt) v next e = absurd (let z : _≡_ {A = ℕ} 0 1 = cc in omega arith)
 
--- what a function that matches on the writer's answer leaves
-module _ {d c : ℕ} {g t t' m z r us w o s o' s' : List ℕ} {a : Written} (p : Wrote d c g t t' m z r o s a o' s') where
-  pub opened : {y : ℕ} {v : Verdict} → a ≡ Value y → numbers v ≡ numbersOf (verification d c g t t' w z y r us o') → OpenVerify d c g t t' m z r us w o s v o' s'
-  opened e h =
-      record {
-        verdict = h ∙ after-value (judgeWriting d c g t t' m z r (length o) (length s)) (valueWord m z) (openingWords g t t' m z r) (λ y b. verification d c g t t' w z y r us b) o (ap wrote (sym e) ∙ p .answer) (p .result);
-        opening = p .result;
-        work = p .work;
-      }
+module _ (𝓕 : PrimeField) where
+  open PrimeField 𝓕 using (modulus as P)
 
-  pub not-opened : {n : Refusal} {v : Verdict} → a ≡ NotWritten n → numbers v ≡ (number n, 0, 0) → OpenVerify d c g t t' m z r us w o s v o' s'
-  not-opened e h = record { verdict = h ∙ after-refusal (judgeWriting d c g t t' m z r (length o) (length s)) (valueWord m z) _ (ap wrote (sym e) ∙ p .answer); opening = p .result; work = p .work }
+  -- what a function that matches on the writer's answer leaves
+  module _ {d c : ℕ} {g t t' m z r us w o s o' s' : List ℕ} {a : Written} (p : Wrote 𝓕 d c g t t' m z r o s a o' s') where
+    pub opened : {y : ℕ} {v : Verdict} → a ≡ Value y → numbers v ≡ numbersOf (verification 𝓕 d c g t t' w z y r us o') → OpenVerify 𝓕 d c g t t' m z r us w o s v o' s'
+    opened e h =
+        record {
+          verdict = h ∙ after-value (judgeWriting 𝓕 d c g t t' m z r (length o) (length s)) (valueWord 𝓕 m z) (openingWords 𝓕 g t t' m z r) (λ y b. verification 𝓕 d c g t t' w z y r us b) o (ap wrote (sym e) ∙ p .answer) (p .result);
+          opening = p .result;
+          work = p .work;
+        }
 
--- by the answer of encoding
-module _ {d c : ℕ} {g t t' m z r us w o s w' : List ℕ} {a : Answer} (p : Encoded d c g t t' m w a w') where
-  pub committed : {v : Verdict} {o' s' : List ℕ} → a ≡ Done → OpenVerify d c g t t' m z r us w' o s v o' s' → CommitOpenVerify d c g t t' m z r us w o s v w' o' s'
-  committed e h =
-      let k = judgeWriting d c g t t' m z r (length o) (length s) in
-      let honestly : List ℕ → Outcome (Option Check) = λ b. verification d c g t t' b z (valueWord m z) r us (openingWords g t t' m z r) in
-      let f : done tt ≡ judgeEncoding d c g t t' m (length w) = ap outcome (sym e) ∙ p .answer in
-      let same : w' ≡ codeword d g t t' m = p .result ∙ sym (ap (λ x. kept x w (codeword d g t t' m)) f) in
-      record {
-        verdict = h .verdict ∙ ap (λ b. numbersOf (k ⨾ honestly b)) same ∙ ap (λ x. numbersOf (x ⨾ k ⨾ honestly (codeword d g t t' m))) f;
-        block = p .result;
-        opening = h .opening ∙ ap (λ x. kept (x ⨾ k) o (openingWords g t t' m z r)) f;
-        work = h .work ∙ ap (λ x. kept (x ⨾ k) s (replicate (length s) 0)) f;
-      }
+    pub not-opened : {n : Refusal} {v : Verdict} → a ≡ NotWritten n → numbers v ≡ (number n, 0, 0) → OpenVerify 𝓕 d c g t t' m z r us w o s v o' s'
+    not-opened e h = record { verdict = h ∙ after-refusal (judgeWriting 𝓕 d c g t t' m z r (length o) (length s)) (valueWord 𝓕 m z) _ (ap wrote (sym e) ∙ p .answer); opening = p .result; work = p .work }
 
-  pub not-committed : {n : Refusal} {v : Verdict} → a ≡ Refused n → numbers v ≡ (number n, 0, 0) → CommitOpenVerify d c g t t' m z r us w o s v w' o s
-  not-committed {n} e h =
-      let k = judgeWriting d c g t t' m z r (length o) (length s) in
-      let honestly : List ℕ → Outcome (Option Check) = λ b. verification d c g t t' b z (valueWord m z) r us (openingWords g t t' m z r) in
-      let f : refused (number n) ≡ judgeEncoding d c g t t' m (length w) = ap outcome (sym e) ∙ p .answer in
-      record {
-        verdict = h ∙ ap (λ x. numbersOf (x ⨾ k ⨾ honestly (codeword d g t t' m))) f;
-        block = p .result;
-        opening = ap (λ x. kept (x ⨾ k) o (openingWords g t t' m z r)) f;
-        work = ap (λ x. kept (x ⨾ k) s (replicate (length s) 0)) f;
-      }
+  -- by the answer of encoding
+  module _ {d c : ℕ} {g t t' m z r us w o s w' : List ℕ} {a : Answer} (p : Encoded 𝓕 d c g t t' m w a w') where
+    pub committed : {v : Verdict} {o' s' : List ℕ} → a ≡ Done → OpenVerify 𝓕 d c g t t' m z r us w' o s v o' s' → CommitOpenVerify 𝓕 d c g t t' m z r us w o s v w' o' s'
+    committed e h =
+        let k = judgeWriting 𝓕 d c g t t' m z r (length o) (length s) in
+        let honestly : List ℕ → Outcome (Option Check) = λ b. verification 𝓕 d c g t t' b z (valueWord 𝓕 m z) r us (openingWords 𝓕 g t t' m z r) in
+        let f : done tt ≡ judgeEncoding 𝓕 d c g t t' m (length w) = ap outcome (sym e) ∙ p .answer in
+        let same : w' ≡ codeword 𝓕 d g t t' m = p .result ∙ sym (ap (λ x. kept x w (codeword 𝓕 d g t t' m)) f) in
+        record {
+          verdict = h .verdict ∙ ap (λ b. numbersOf (k ⨾ honestly b)) same ∙ ap (λ x. numbersOf (x ⨾ k ⨾ honestly (codeword 𝓕 d g t t' m))) f;
+          block = p .result;
+          opening = h .opening ∙ ap (λ x. kept (x ⨾ k) o (openingWords 𝓕 g t t' m z r)) f;
+          work = h .work ∙ ap (λ x. kept (x ⨾ k) s (replicate (length s) 0)) f;
+        }
 
-module _ {d c : ℕ} {g t t' m z r us : List ℕ} {n o s : ℕ} (𝓕 : NothingRefused d c g t t' m z r us n o s) where
-  within : (limits d c ≡ done tt) × (encodeLengths d c (length g) (length t) (length t') (length m) n ≡ true)
-      × (rowWords g t t' && allBelow m ≡ true) × (legalRow g t t' ≡ done tt)
-  unfolding judgeEncoding
-  within =
-      let a = both (limits d c) (𝓕 .encodes) in
-      let b = require-done (encodeLengths d c (length g) (length t) (length t') (length m) n) 3 (a .1) in
-      let e = require-done (rowWords g t t' && allBelow m) 4 (b .1) in
-      (a .0, b .0, e .0, e .1)
+    pub not-committed : {n : Refusal} {v : Verdict} → a ≡ Refused n → numbers v ≡ (number n, 0, 0) → CommitOpenVerify 𝓕 d c g t t' m z r us w o s v w' o s
+    not-committed {n} e h =
+        let k = judgeWriting 𝓕 d c g t t' m z r (length o) (length s) in
+        let honestly : List ℕ → Outcome (Option Check) = λ b. verification 𝓕 d c g t t' b z (valueWord 𝓕 m z) r us (openingWords 𝓕 g t t' m z r) in
+        let f : refused (number n) ≡ judgeEncoding 𝓕 d c g t t' m (length w) = ap outcome (sym e) ∙ p .answer in
+        record {
+          verdict = h ∙ ap (λ x. numbersOf (x ⨾ k ⨾ honestly (codeword 𝓕 d g t t' m))) f;
+          block = p .result;
+          opening = ap (λ x. kept (x ⨾ k) o (openingWords 𝓕 g t t' m z r)) f;
+          work = ap (λ x. kept (x ⨾ k) s (replicate (length s) 0)) f;
+        }
 
-  sizes : (rowLengths d c (length g) (length t) (length t') ≡ true) × (length m ≡ 2 ^ d)
-  unfolding encodeLengths
-  sizes =
-      let l = and-both (rowLengths d c (length g) (length t) (length t')) (eqb (length m) (2 ^ d) && eqb n (blockSize c d)) (within .1) in
-      (l .0, eqb-true _ _ (and-both (eqb (length m) (2 ^ d)) (eqb n (blockSize c d)) (l .1) .0))
+  module _ {d c : ℕ} {g t t' m z r us : List ℕ} {n o s : ℕ} (𝓘 : NothingRefused 𝓕 d c g t t' m z r us n o s) where
+    within : (limits d c ≡ done tt) × (encodeLengths d c (length g) (length t) (length t') (length m) n ≡ true)
+        × (rowWords 𝓕 g t t' && allBelow 𝓕 m ≡ true) × (legalRow g t t' ≡ done tt)
+    unfolding judgeEncoding
+    within =
+        let a = both (limits d c) (𝓘 .encodes) in
+        let b = require-done (encodeLengths d c (length g) (length t) (length t') (length m) n) 3 (a .1) in
+        let e = require-done (rowWords 𝓕 g t t' && allBelow 𝓕 m) 4 (b .1) in
+        (a .0, b .0, e .0, e .1)
 
-  lent-row : LegalRow d c g t t'
-  lent-row = record { within = within .0; lengths = sizes .0; words = and-both (rowWords g t t') (allBelow m) (within .2) .0; legal = within .3 }
+    sizes : (rowLengths d c (length g) (length t) (length t') ≡ true) × (length m ≡ 2 ^ d)
+    unfolding encodeLengths
+    sizes =
+        let l = and-both (rowLengths d c (length g) (length t) (length t')) (eqb (length m) (2 ^ d) && eqb n (blockSize c d)) (within .1) in
+        (l .0, eqb-true _ _ (and-both (eqb (length m) (2 ^ d)) (eqb n (blockSize c d)) (l .1) .0))
 
-  asked : (length z ≡ d) × (length r ≡ d) × Low P z × Low P r
-  unfolding judgeWriting writeLengths inputLengths inputWords
-  asked =
-      let a = both (limits d c) (𝓕 .writes) in
-      let b = require-done (writeLengths d c (length g) (length t) (length t') (length m) (length z) (length r) o s) 3 (a .1) in
-      let e = require-done (rowWords g t t' && inputWords m z r) 4 (b .1) in
-      let i = and-both (inputLengths d (length m) (length z) (length r)) (bufferLengths d c o s) (and-both (rowLengths d c (length g) (length t) (length t')) _ (b .0) .1) in
-      let zr = and-both (eqb (length z) d) (eqb (length r) d) (and-both (eqb (length m) (2 ^ d)) _ (i .0) .1) in
-      let w = and-both (allBelow z) (allBelow r) (and-both (allBelow m) _ (and-both (rowWords g t t') (inputWords m z r) (e .0) .1) .1) in
-      (eqb-true _ _ (zr .0), eqb-true _ _ (zr .1), all-below z (w .0), all-below r (w .1))
+    lent-row : LegalRow 𝓕 d c g t t'
+    lent-row = record { within = within .0; lengths = sizes .0; words = and-both (rowWords 𝓕 g t t') (allBelow 𝓕 m) (within .2) .0; legal = within .3 }
 
-  honest : numbersOf (verification d c g t t' (codeword d g t t' m) z (valueWord m z) r us (openingWords g t t' m z r)) ≡ (0, 0, 0)
-  honest = opening-accepted d c g t t' lent-row m z r us (sizes .1) (asked .0) (asked .1) (asked .2) (asked .3) (𝓕 .asks) (valueWord m z) refl
+    asked : (length z ≡ d) × (length r ≡ d) × Low P z × Low P r
+    unfolding judgeWriting writeLengths inputLengths inputWords
+    asked =
+        let a = both (limits d c) (𝓘 .writes) in
+        let b = require-done (writeLengths d c (length g) (length t) (length t') (length m) (length z) (length r) o s) 3 (a .1) in
+        let e = require-done (rowWords 𝓕 g t t' && inputWords 𝓕 m z r) 4 (b .1) in
+        let i = and-both (inputLengths d (length m) (length z) (length r)) (bufferLengths d c o s) (and-both (rowLengths d c (length g) (length t) (length t')) _ (b .0) .1) in
+        let zr = and-both (eqb (length z) d) (eqb (length r) d) (and-both (eqb (length m) (2 ^ d)) _ (i .0) .1) in
+        let w = and-both (allBelow 𝓕 z) (allBelow 𝓕 r) (and-both (allBelow 𝓕 m) _ (and-both (rowWords 𝓕 g t t') (inputWords 𝓕 m z r) (e .0) .1) .1) in
+        (eqb-true _ _ (zr .0), eqb-true _ _ (zr .1), all-below 𝓕 z (w .0), all-below 𝓕 r (w .1))
 
--- wherever no refusal is due, the verdict is 0
-pub commit-accepted : {d c : ℕ} {g t t' m z r us w o s : List ℕ} {v : Verdict} {w' o' s' : List ℕ} → CommitOpenVerify d c g t t' m z r us w o s v w' o' s'
-    → NothingRefused d c g t t' m z r us (length w) (length o) (length s) → numbers v ≡ (0, 0, 0)
-commit-accepted {d} {c} {g} {t} {t'} {m} {z} {r} {us} p f =
-    p .verdict
-    ∙ ap₂ (λ a b. numbersOf (a ⨾ b ⨾ verification d c g t t' (codeword d g t t' m) z (valueWord m z) r us (openingWords g t t' m z r))) (f .encodes) (f .writes)
-    ∙ honest f
+    honest : numbersOf (verification 𝓕 d c g t t' (codeword 𝓕 d g t t' m) z (valueWord 𝓕 m z) r us (openingWords 𝓕 g t t' m z r)) ≡ (0, 0, 0)
+    honest = opening-accepted 𝓕 d c g t t' lent-row m z r us (sizes .1) (asked .0) (asked .1) (asked .2) (asked .3) (𝓘 .asks) (valueWord 𝓕 m z) refl
+
+  -- wherever no refusal is due, the verdict is 0
+  pub commit-accepted : {d c : ℕ} {g t t' m z r us w o s : List ℕ} {v : Verdict} {w' o' s' : List ℕ} → CommitOpenVerify 𝓕 d c g t t' m z r us w o s v w' o' s'
+      → NothingRefused 𝓕 d c g t t' m z r us (length w) (length o) (length s) → numbers v ≡ (0, 0, 0)
+  commit-accepted {d} {c} {g} {t} {t'} {m} {z} {r} {us} p f =
+      p .verdict
+      ∙ ap₂ (λ a b. numbersOf (a ⨾ b ⨾ verification 𝓕 d c g t t' (codeword 𝓕 d g t t' m) z (valueWord 𝓕 m z) r us (openingWords 𝓕 g t t' m z r))) (f .encodes) (f .writes)
+      ∙ honest f

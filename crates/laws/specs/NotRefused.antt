@@ -7,12 +7,12 @@ use Prim.Native.Nat.{ℕ, suc, _-_, _^_, _<_, _≤_}
 use native.Mathlib.Omega.{arith}
 use lib.ListN.{length, take, drop, length-take}
 use borrow.Author.Tests.{eq-eqb, le-leb, lt-ltb, leb-true}
+use Rattle.algebra.specs.Words.{PrimeField}
 use Rattle.algebra.specs.Tests.{all₂-take, all₂-drop}
 use Rattle.algebra.specs.WordLists.{Low, low-take, low-drop}
 use Rattle.job.specs.Outcome.{done}
 use Rattle.job.specs.OutcomeLaws.{require-done, held}
 use Rattle.job.specs.Limits.{maxDepth, depthOk, rateOk, blockSize, diagonalsSize}
-use Rattle.residue.specs.Residues.{P}
 use Rattle.residue.specs.Scans.{allBelow, noneZero, allDiffer}
 use Rattle.residue.specs.ScanLaws.{below-all}
 use Rattle.parameters.specs.Lent.{diagonal}
@@ -32,75 +32,78 @@ limits-done d i c h e =
     let l : i ≤ maxDepth = omega (arith, leb-true d maxDepth (w .0)) in
     rw (le-leb i maxDepth l, w .1)
 
-module _ {d c : ℕ} {g t t' : List ℕ} (𝓡 : LegalRow d c g t t') where
-  limits-of : (depthOk d ≡ true) × (rateOk c ≡ true)
-  limits-of = within d c (sym (𝓡 .within))
+module _ (𝓕 : PrimeField) where
+  open PrimeField 𝓕 using (modulus as P)
 
-  apart-of : (noneZero g ≡ true) × (allDiffer t t' ≡ true)
-  apart-of = let a = require-done (noneZero g) 5 (𝓡 .legal) in (a .0, held (allDiffer t t') 6 (a .1))
+  module _ {d c : ℕ} {g t t' : List ℕ} (𝓡 : LegalRow 𝓕 d c g t t') where
+    limits-of : (depthOk d ≡ true) × (rateOk c ≡ true)
+    limits-of = within d c (sym (𝓡 .within))
 
-  words-of : RowWords g t t'
-  words-of = row-words g t t' (𝓡 .words)
+    apart-of : (noneZero g ≡ true) × (allDiffer t t' ≡ true)
+    apart-of = let a = require-done (noneZero g) 5 (𝓡 .legal) in (a .0, held (allDiffer t t') 6 (a .1))
 
-  -- a message with residues, and a result of exact length
-  pub encoding-done : (m : List ℕ) (n : ℕ) → length m ≡ 2 ^ d → Low P m → n ≡ blockSize c d → judgeEncoding d c g t t' m n ≡ done tt
-  unfolding judgeEncoding encodeLengths
-  encoding-done m n lm low ln =
-      rw (𝓡 .within, 𝓡 .lengths, eq-eqb (length m) (2 ^ d) lm, eq-eqb n (blockSize c d) ln, 𝓡 .words, below-all m low) (𝓡 .legal)
+    words-of : RowWords 𝓕 g t t'
+    words-of = row-words 𝓕 g t t' (𝓡 .words)
 
-  -- a block of residues, a result and a work buffer of exact length
-  pub decoding-done : (b : List ℕ) (m k : ℕ) → length b ≡ blockSize c d → Low P b → m ≡ 2 ^ d → k ≡ blockSize c d → judgeDecoding d c g t t' b m k ≡ done tt
-  unfolding judgeDecoding decodeLengths
-  decoding-done b m k lb low lm lk =
-      rw (𝓡 .within, 𝓡 .lengths, eq-eqb (length b) (blockSize c d) lb, eq-eqb m (2 ^ d) lm, eq-eqb k (blockSize c d) lk, 𝓡 .words, below-all b low) (𝓡 .legal)
+    -- a message with residues, and a result of exact length
+    pub encoding-done : (m : List ℕ) (n : ℕ) → length m ≡ 2 ^ d → Low P m → n ≡ blockSize c d → judgeEncoding 𝓕 d c g t t' m n ≡ done tt
+    unfolding judgeEncoding encodeLengths
+    encoding-done m n lm low ln =
+        rw (𝓡 .within, 𝓡 .lengths, eq-eqb (length m) (2 ^ d) lm, eq-eqb n (blockSize c d) ln, 𝓡 .words, below-all 𝓕 m low) (𝓡 .legal)
 
-  -- level i of the diagonals
-  level-ok : (i : ℕ) → i < d → levelOk (suc i) ≡ true
-  unfolding levelOk
-  level-ok i h = rw (le-leb 1 (suc i) (omega arith), le-leb (suc i) maxDepth (omega (arith, leb-true d maxDepth (limits-of .0))))
+    -- a block of residues, a result and a work buffer of exact length
+    pub decoding-done : (b : List ℕ) (m k : ℕ) → length b ≡ blockSize c d → Low P b → m ≡ 2 ^ d → k ≡ blockSize c d → judgeDecoding 𝓕 d c g t t' b m k ≡ done tt
+    unfolding judgeDecoding decodeLengths
+    decoding-done b m k lb low lm lk =
+        rw (𝓡 .within, 𝓡 .lengths, eq-eqb (length b) (blockSize c d) lb, eq-eqb m (2 ^ d) lm, eq-eqb k (blockSize c d) lk, 𝓡 .words, below-all 𝓕 b low) (𝓡 .legal)
 
-  level-lengths : (i b n : ℕ) → i < d → b ≡ blockSize c (suc i) → n ≡ blockSize c i → lengthsOk (suc i) c (length (diagonal c t i)) (length (diagonal c t' i)) b n ≡ true
-  unfolding lengthsOk
-  level-lengths i b n h lb ln =
-      let one : suc i - 1 ≡ i = omega arith in
-      let l = lengths-of 𝓡 in
-      let size : (s : List ℕ) → length s ≡ diagonalsSize c d → length (diagonal c s i) ≡ blockSize c i = λ s e. length-diagonal c d i s h (omega arith) in
-      rw (
-        one,
-        eq-eqb (length (diagonal c t i)) (blockSize c i) (size t (l .first)),
-        eq-eqb (length (diagonal c t' i)) (blockSize c i) (size t' (l .second)),
-        eq-eqb b (blockSize c (suc i)) lb,
-        eq-eqb n (blockSize c i) ln,
-      )
+    -- level i of the diagonals
+    level-ok : (i : ℕ) → i < d → levelOk (suc i) ≡ true
+    unfolding levelOk
+    level-ok i h = rw (le-leb 1 (suc i) (omega arith), le-leb (suc i) maxDepth (omega (arith, leb-true d maxDepth (limits-of .0))))
 
-  level-words : (i : ℕ) (b : List ℕ) (a : ℕ) → Low P b → a < P → wordsOk (diagonal c t i) (diagonal c t' i) b a ≡ true
-  unfolding wordsOk diagonal
-  level-words i b a low la =
-      let part : (s : List ℕ) → Low P s → allBelow (take (blockSize c i) (drop (diagonalsSize c i) s)) ≡ true = λ s l. below-all (take (blockSize c i) (drop (diagonalsSize c i) s)) (low-take (blockSize c i) (low-drop (diagonalsSize c i) l)) in
-      rw (part t (words-of .first), part t' (words-of .second), below-all b low, lt-ltb a P la)
+    level-lengths : (i b n : ℕ) → i < d → b ≡ blockSize c (suc i) → n ≡ blockSize c i → lengthsOk (suc i) c (length (diagonal c t i)) (length (diagonal c t' i)) b n ≡ true
+    unfolding lengthsOk
+    level-lengths i b n h lb ln =
+        let one : suc i - 1 ≡ i = omega arith in
+        let l = lengths-of 𝓕 𝓡 in
+        let size : (s : List ℕ) → length s ≡ diagonalsSize c d → length (diagonal c s i) ≡ blockSize c i = λ s e. length-diagonal c d i s h (omega arith) in
+        rw (
+          one,
+          eq-eqb (length (diagonal c t i)) (blockSize c i) (size t (l .first)),
+          eq-eqb (length (diagonal c t' i)) (blockSize c i) (size t' (l .second)),
+          eq-eqb b (blockSize c (suc i)) lb,
+          eq-eqb n (blockSize c i) ln,
+        )
 
-  level-apart : (i : ℕ) → allDiffer (diagonal c t i) (diagonal c t' i) ≡ true
-  unfolding diagonal
-  level-apart i = all₂-take _ (blockSize c i) _ _ (all₂-drop _ (diagonalsSize c i) t t' (apart-of .1))
+    level-words : (i : ℕ) (b : List ℕ) (a : ℕ) → Low P b → a < P → wordsOk 𝓕 (diagonal c t i) (diagonal c t' i) b a ≡ true
+    unfolding wordsOk diagonal
+    level-words i b a low la =
+        let part : (s : List ℕ) → Low P s → allBelow 𝓕 (take (blockSize c i) (drop (diagonalsSize c i) s)) ≡ true = λ s l. below-all 𝓕 (take (blockSize c i) (drop (diagonalsSize c i) s)) (low-take (blockSize c i) (low-drop (diagonalsSize c i) l)) in
+        rw (part t (words-of .first), part t' (words-of .second), below-all 𝓕 b low, lt-ltb a P la)
 
-  -- a block of residues of the level above, a challenge and a result of exact length
-  pub folding-done : (i : ℕ) (b : List ℕ) (a n : ℕ) → i < d → length b ≡ blockSize c (suc i) → Low P b → a < P → n ≡ blockSize c i
-      → judgeFolding (suc i) c (diagonal c t i) (diagonal c t' i) b a n ≡ done tt
-  unfolding judgeFolding
-  folding-done i b a n h lb low la ln = rw (level-ok i h, limits-of .1, level-lengths i (length b) n h lb ln, level-words i b a low la, level-apart i)
+    level-apart : (i : ℕ) → allDiffer (diagonal c t i) (diagonal c t' i) ≡ true
+    unfolding diagonal
+    level-apart i = all₂-take _ (blockSize c i) _ _ (all₂-drop _ (diagonalsSize c i) t t' (apart-of .1))
 
-  -- the levels below depth i
-  pub row-below : (i : ℕ) → i ≤ d → LegalRow i c g (levelsBelow c i t) (levelsBelow c i t')
-  unfolding rowLengths rowWords
-  row-below i h =
-      let l = lengths-of 𝓡 in
-      let w = words-of in
-      let n = diagonalsSize c i in
-      let less = diagonals-mono c i d h in
-      let size : (s : List ℕ) → length s ≡ diagonalsSize c d → length (take n s) ≡ n = λ s e. length-take n s ∙ omega arith in
-      record {
-        within = limits-done d i c h (𝓡 .within);
-        lengths = rw (eq-eqb (length g) c (l .row), eq-eqb (length (take n t)) n (size t (l .first)), eq-eqb (length (take n t')) n (size t' (l .second)));
-        words = rw (below-all g (w .row), below-all (take n t) (low-take n (w .first)), below-all (take n t') (low-take n (w .second)));
-        legal = rw (apart-of .0, all₂-take _ n t t' (apart-of .1));
-      }
+    -- a block of residues of the level above, a challenge and a result of exact length
+    pub folding-done : (i : ℕ) (b : List ℕ) (a n : ℕ) → i < d → length b ≡ blockSize c (suc i) → Low P b → a < P → n ≡ blockSize c i
+        → judgeFolding 𝓕 (suc i) c (diagonal c t i) (diagonal c t' i) b a n ≡ done tt
+    unfolding judgeFolding
+    folding-done i b a n h lb low la ln = rw (level-ok i h, limits-of .1, level-lengths i (length b) n h lb ln, level-words i b a low la, level-apart i)
+
+    -- the levels below depth i
+    pub row-below : (i : ℕ) → i ≤ d → LegalRow 𝓕 i c g (levelsBelow c i t) (levelsBelow c i t')
+    unfolding rowLengths rowWords
+    row-below i h =
+        let l = lengths-of 𝓕 𝓡 in
+        let w = words-of in
+        let n = diagonalsSize c i in
+        let less = diagonals-mono c i d h in
+        let size : (s : List ℕ) → length s ≡ diagonalsSize c d → length (take n s) ≡ n = λ s e. length-take n s ∙ omega arith in
+        record {
+          within = limits-done d i c h (𝓡 .within);
+          lengths = rw (eq-eqb (length g) c (l .row), eq-eqb (length (take n t)) n (size t (l .first)), eq-eqb (length (take n t')) n (size t' (l .second)));
+          words = rw (below-all 𝓕 g (w .row), below-all 𝓕 (take n t) (low-take n (w .first)), below-all 𝓕 (take n t') (low-take n (w .second)));
+          legal = rw (apart-of .0, all₂-take _ n t t' (apart-of .1));
+        }

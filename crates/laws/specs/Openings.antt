@@ -10,9 +10,9 @@ use native.Mathlib.Omega.{arith}
 use lib.Dec.{leb, ltb}
 use lib.ListN.{length}
 use borrow.Author.Tests.{eq-eqb, eqb-true, lt-ltb, ltb-true}
-use Rattle.algebra.specs.Half.{two₁}
+use Rattle.algebra.specs.Half.{two}
 use Rattle.algebra.specs.Tests.{all, and-both}
-use Rattle.algebra.specs.Words.{𝔽₁}
+use Rattle.algebra.specs.Words.{Words, PrimeField}
 use Rattle.algebra.specs.WordLists.{Low, low-words, elements, elements-words, length-elements, length-words}
 use Rattle.basefold.specs.Layout.{openingSize}
 use Rattle.basefold.specs.Checks.{Check, firstCheck, firstFailure, checks}
@@ -22,7 +22,6 @@ use Rattle.foldable.specs.Code.{encode, dim, Legal}
 use Rattle.foldable.specs.Encode.{length-encode}
 use Rattle.job.specs.Outcome.{done, _⨾_}
 use Rattle.job.specs.Limits.{blockSize}
-use Rattle.residue.specs.Residues.{P, F, el, word}
 use Rattle.residue.specs.ScanLaws.{below-all}
 use Rattle.parameters.specs.Lent.{lent, Coding, codeword}
 use Rattle.open.specs.Laws.{length-opening}
@@ -55,89 +54,93 @@ legal-queries n (suc i) c us e h =
     let some = and-both (leb 1 (length us)) (leb (length us) maxQueries && all (λ u. ltb u (blockSize c i)) us) h in
     all-queries n c i us e (and-both (leb (length us) maxQueries) (all (λ u. ltb u (blockSize c i)) us) (some .1) .1)
 
-module _ (d c : ℕ) (g t t' : List ℕ) (𝓡 : LegalRow d c g t t') (m z r us : List ℕ) (lm : length m ≡ 2 ^ d) (lz : length z ≡ d) (lr : length r ≡ d)
-    (low-z : Low P z) (low-r : Low P r) (legal-us : queriesOk d c us ≡ true) where
-  coded : Coding d g t t'
-  coded = coding-of 𝓡
+module _ (𝓕 : PrimeField) where
+  open PrimeField 𝓕 using (modulus as P, field as F, words as W)
+  open Words W using (el, val as word)
 
-  rate : length g ≡ c
-  rate = lengths-of 𝓡 .row
+  module _ (d c : ℕ) (g t t' : List ℕ) (𝓡 : LegalRow 𝓕 d c g t t') (m z r us : List ℕ) (lm : length m ≡ 2 ^ d) (lz : length z ≡ d) (lr : length r ≡ d)
+      (low-z : Low P z) (low-r : Low P r) (legal-us : queriesOk d c us ≡ true) where
+    coded : Coding 𝓕 d g t t'
+    coded = coding-of 𝓕 𝓡
 
-  abbrev w : List ℕ
-  w = codeword d g t t' m
+    rate : length g ≡ c
+    rate = lengths-of 𝓕 𝓡 .row
 
-  abbrev o : List ℕ
-  o = openingWords g t t' m z r
+    abbrev w : List ℕ
+    w = codeword 𝓕 d g t t' m
 
-  depth : length (elements 𝔽₁ r) ≡ d
-  depth = length-elements 𝔽₁ r ∙ lr
+    abbrev o : List ℕ
+    o = openingWords 𝓕 g t t' m z r
 
-  legal : Legal F (lent g t t') (length (elements 𝔽₁ r))
-  legal = rw depth (coded .legal)
+    depth : length (elements 𝓕 r) ≡ d
+    depth = length-elements 𝓕 r ∙ lr
 
-  length-w : length (codeword d g t t' m) ≡ blockSize c d
-  length-w = length-words 𝔽₁ _ ∙ length-encode F (lent g t t') d (coded .legal) (elements 𝔽₁ m) ∙ ap (λ k. k * 2 ^ d) (length-elements 𝔽₁ g ∙ rate)
+    legal : Legal F (lent 𝓕 g t t') (length (elements 𝓕 r))
+    legal = rw depth (coded .legal)
 
-  length-o : length (openingWords g t t' m z r) ≡ openingSize c 0 d
-  length-o = length-words 𝔽₁ _ ∙ length-opening F 0 (lent g t t') _ _ _ legal ∙ ap₂ (λ n k. openingSize n 0 k) (length-elements 𝔽₁ g ∙ rate) depth
+    length-w : length (codeword 𝓕 d g t t' m) ≡ blockSize c d
+    length-w = length-words 𝓕 _ ∙ length-encode F (lent 𝓕 g t t') d (coded .legal) (elements 𝓕 m) ∙ ap (λ k. k * 2 ^ d) (length-elements 𝓕 g ∙ rate)
 
-  -- nothing is refused
-  fine : (y : ℕ) → y < P → judgeVerifying d c g t t' w z y r us o ≡ done tt
-  unfolding judgeVerifying openedLengths openedWords
-  fine y h =
-      rw (
-        𝓡 .within,
-        𝓡 .lengths,
-        eq-eqb (length w) (blockSize c d) length-w,
-        eq-eqb (length z) d lz,
-        eq-eqb (length r) d lr,
-        eq-eqb (length o) (openingSize c 0 d) length-o,
-        𝓡 .words,
-        below-all w (low-words 𝔽₁ _),
-        below-all z low-z,
-        lt-ltb y P h,
-        below-all r low-r,
-        below-all o (low-words 𝔽₁ _),
-        𝓡 .legal,
-        legal-us,
-      )
+    length-o : length (openingWords 𝓕 g t t' m z r) ≡ openingSize c 0 d
+    length-o = length-words 𝓕 _ ∙ length-opening F 0 (lent 𝓕 g t t') _ _ _ legal ∙ ap₂ (λ n k. openingSize n 0 k) (length-elements 𝓕 g ∙ rate) depth
 
-  judged : (y : ℕ) → y < P → (v : Option Check)
-      → firstFailure (checks F 0 (lent g t t') (encode F (lent g t t') (length (elements 𝔽₁ r)) (elements 𝔽₁ m)) (elements 𝔽₁ z) (el y) (elements 𝔽₁ r) us (opening F 0 (lent g t t') (elements 𝔽₁ m) (elements 𝔽₁ z) (elements 𝔽₁ r))) ≡ v
-      → verification d c g t t' w z y r us o ≡ done v
-  unfolding verification
-  judged y h v e =
-      let C = lent g t t' in
-      let block : elements 𝔽₁ w ≡ encode F C (length (elements 𝔽₁ r)) (elements 𝔽₁ m) = elements-words 𝔽₁ _ ∙ ap (λ k. encode F C k (elements 𝔽₁ m)) (sym depth) in
-      ap (λ x. x ⨾ done (firstFailure (checks F 0 C (elements 𝔽₁ w) (elements 𝔽₁ z) (el y) (elements 𝔽₁ r) us (elements 𝔽₁ o)))) (fine y h)
-      ∙ ap done (ap₂ (λ a b. firstFailure (checks F 0 C a (elements 𝔽₁ z) (el y) (elements 𝔽₁ r) us b)) block (elements-words 𝔽₁ _) ∙ e)
+    -- nothing is refused
+    fine : (y : ℕ) → y < P → judgeVerifying 𝓕 d c g t t' w z y r us o ≡ done tt
+    unfolding judgeVerifying openedLengths openedWords
+    fine y h =
+        rw (
+          𝓡 .within,
+          𝓡 .lengths,
+          eq-eqb (length w) (blockSize c d) length-w,
+          eq-eqb (length z) d lz,
+          eq-eqb (length r) d lr,
+          eq-eqb (length o) (openingSize c 0 d) length-o,
+          𝓡 .words,
+          below-all 𝓕 w (low-words 𝓕 _),
+          below-all 𝓕 z low-z,
+          lt-ltb y P h,
+          below-all 𝓕 r low-r,
+          below-all 𝓕 o (low-words 𝓕 _),
+          𝓡 .legal,
+          legal-us,
+        )
 
-  queries : Queries (length (elements 𝔽₁ g)) (length (elements 𝔽₁ r)) us
-  queries = rw depth (legal-queries (length (elements 𝔽₁ g)) d c us (length-elements 𝔽₁ g ∙ rate) legal-us)
+    judged : (y : ℕ) → y < P → (v : Option Check)
+        → firstFailure (checks F 0 (lent 𝓕 g t t') (encode F (lent 𝓕 g t t') (length (elements 𝓕 r)) (elements 𝓕 m)) (elements 𝓕 z) (el y) (elements 𝓕 r) us (opening F 0 (lent 𝓕 g t t') (elements 𝓕 m) (elements 𝓕 z) (elements 𝓕 r))) ≡ v
+        → verification 𝓕 d c g t t' w z y r us o ≡ done v
+    unfolding verification
+    judged y h v e =
+        let C = lent 𝓕 g t t' in
+        let block : elements 𝓕 w ≡ encode F C (length (elements 𝓕 r)) (elements 𝓕 m) = elements-words 𝓕 _ ∙ ap (λ k. encode F C k (elements 𝓕 m)) (sym depth) in
+        ap (λ x. x ⨾ done (firstFailure (checks F 0 C (elements 𝓕 w) (elements 𝓕 z) (el y) (elements 𝓕 r) us (elements 𝓕 o)))) (fine y h)
+        ∙ ap done (ap₂ (λ a b. firstFailure (checks F 0 C a (elements 𝓕 z) (el y) (elements 𝓕 r) us b)) block (elements-words 𝓕 _) ∙ e)
 
-  sized : length (elements 𝔽₁ m) ≡ dim F (lent g t t') (length (elements 𝔽₁ r))
-  sized = length-elements 𝔽₁ m ∙ lm ∙ ap (λ k. 2 ^ k) (sym depth) ∙ sym (one-mul (2 ^ length (elements 𝔽₁ r)))
+    queries : Queries (length (elements 𝓕 g)) (length (elements 𝓕 r)) us
+    queries = rw depth (legal-queries (length (elements 𝓕 g)) d c us (length-elements 𝓕 g ∙ rate) legal-us)
 
-  sized-z : length (elements 𝔽₁ z) ≡ 0 + length (elements 𝔽₁ r)
-  sized-z = length-elements 𝔽₁ z ∙ lz ∙ sym depth ∙ sym (zero-add (length (elements 𝔽₁ r)))
+    sized : length (elements 𝓕 m) ≡ dim F (lent 𝓕 g t t') (length (elements 𝓕 r))
+    sized = length-elements 𝓕 m ∙ lm ∙ ap (λ k. 2 ^ k) (sym depth) ∙ sym (one-mul (2 ^ length (elements 𝓕 r)))
 
-  -- with f(z) it is accepted
-  pub opening-accepted : (y : ℕ) → y ≡ valueWord m z → numbersOf (verification d c g t t' w z y r us o) ≡ (0, 0, 0)
-  opening-accepted y e =
-      let h : y < P = rw e (𝔽₁ .words .val-lt _) in
-      ap numbersOf
-      (judged y h none
-      (honest-accepted F 0 (lent g t t') (elements 𝔽₁ m) (elements 𝔽₁ z) (elements 𝔽₁ r) legal refl sized two₁ sized-z us queries (el y) (ap el e ∙ 𝔽₁ .words .el-val _)))
+    sized-z : length (elements 𝓕 z) ≡ 0 + length (elements 𝓕 r)
+    sized-z = length-elements 𝓕 z ∙ lz ∙ sym depth ∙ sym (zero-add (length (elements 𝓕 r)))
 
-  -- with any other value the first check fails
-  pub opening-fails : (y : ℕ) → y < P → (y ≡ valueWord m z → ⊥) → numbersOf (verification d c g t t' w z y r us o) ≡ failed d
-  opening-fails y h n =
-      ap numbersOf
-      (judged y h (some (firstCheck (length (elements 𝔽₁ r))))
-      (honest-fails F 0 (lent g t t') (elements 𝔽₁ m) (elements 𝔽₁ z) (elements 𝔽₁ r) legal refl sized two₁ sized-z us (el y)
-      (λ q. n (sym (𝔽₁ .words .val-el y h) ∙ ap word q))))
-      ∙ ap (λ k. numbersOf (done (some (firstCheck k)))) depth ∙ number d
-    where
-      number : (d : ℕ) → numbersOf (done (some (firstCheck d))) ≡ failed d
-      number zero = refl
-      number (suc i) = refl
+    -- with f(z) it is accepted
+    pub opening-accepted : (y : ℕ) → y ≡ valueWord 𝓕 m z → numbersOf (verification 𝓕 d c g t t' w z y r us o) ≡ (0, 0, 0)
+    opening-accepted y e =
+        let h : y < P = rw e (𝓕 .words .val-lt _) in
+        ap numbersOf
+        (judged y h none
+        (honest-accepted F 0 (lent 𝓕 g t t') (elements 𝓕 m) (elements 𝓕 z) (elements 𝓕 r) legal refl sized (two 𝓕) sized-z us queries (el y) (ap el e ∙ 𝓕 .words .el-val _)))
+
+    -- with any other value the first check fails
+    pub opening-fails : (y : ℕ) → y < P → (y ≡ valueWord 𝓕 m z → ⊥) → numbersOf (verification 𝓕 d c g t t' w z y r us o) ≡ failed d
+    opening-fails y h n =
+        ap numbersOf
+        (judged y h (some (firstCheck (length (elements 𝓕 r))))
+        (honest-fails F 0 (lent 𝓕 g t t') (elements 𝓕 m) (elements 𝓕 z) (elements 𝓕 r) legal refl sized (two 𝓕) sized-z us (el y)
+        (λ q. n (sym (𝓕 .words .val-el y h) ∙ ap word q))))
+        ∙ ap (λ k. numbersOf (done (some (firstCheck k)))) depth ∙ number d
+      where
+        number : (d : ℕ) → numbersOf (done (some (firstCheck d))) ≡ failed d
+        number zero = refl
+        number (suc i) = refl

@@ -8,7 +8,7 @@ use native.Mathlib.Omega.{arith}
 use lib.ListN.{length, getD, replicate}
 use lib.Dec.{lit<}
 use lib.IntN.{ℤ, pos, negsuc}
-use Rattle.algebra.specs.Half.{two₁}
+use Rattle.algebra.specs.Half.{two}
 use Rattle.algebra.specs.Words.{𝔽₁, W₁}
 use Rattle.algebra.specs.Fields.{F₁}
 use Rattle.algebra.specs.Zmod.{of, addZ, mulZ, subZ, negZ, res-path}
@@ -70,7 +70,7 @@ spoilt = 19 ∷ 26 ∷ 2147483638 ∷ 2147483632 ∷ []
 
 -- the verdict on an opening of w at z, by the challenge r
 abbrev verdict : (z y r : ℕ) → (us o : List ℕ) → Numbers
-verdict z y r us o = numbersOf (verification 1 2 g t t' w (z ∷ []) y (r ∷ []) us o)
+verdict z y r us o = numbersOf (verification 𝔽₁ 1 2 g t t' w (z ∷ []) y (r ∷ []) us o)
 
 -- what is claimed: words that a definition gives; clearances; verdicts; the coefficients of a table; decoding, whatever the buffers held
 pub data Case : Type 0 where
@@ -87,9 +87,9 @@ Holds (reads a b) = a ≡ b
 Holds (says a b) = a ≡ b
 Holds (coefficients e c) = MessageOf e c
 Holds (decodes b c) =
-    (old space : List ℕ) → length old ≡ 2 → length space ≡ 4 → Decoded 1 2 g t t' b old space Done c (replicate (length space) 0)
+    (old space : List ℕ) → length old ≡ 2 → length space ≡ 4 → Decoded 𝔽₁ 1 2 g t t' b old space Done c (replicate (length space) 0)
 Holds (refuses b) =
-    (old space : List ℕ) → length old ≡ 2 → length space ≡ 4 → Decoded 1 2 g t t' b old space (Refused NoCodeword) old (replicate (length space) 0)
+    (old space : List ℕ) → length old ≡ 2 → length space ≡ 4 → Decoded 𝔽₁ 1 2 g t t' b old space (Refused NoCodeword) old (replicate (length space) 0)
 
 abbrev pub AllProved : List Case → Type 0
 AllProved [] = Unit {0}
@@ -100,35 +100,35 @@ starredNumbers =
     gives (residueOf (negsuc 0) ∷ []) (2147483646 ∷ [])
     ∷ reads (clearanceOf 1073741824) (negsuc 1073741822)
     ∷ coefficients (pos 3 ∷ pos 5 ∷ pos 4 ∷ pos 10 ∷ []) (3 ∷ 2 ∷ 1 ∷ 4 ∷ [])
-    ∷ gives (codeword 1 g t t' m) w
+    ∷ gives (codeword 𝔽₁ 1 g t t' m) w
     ∷ decodes w m
     ∷ refuses spoilt
-    ∷ gives (foldedLevel 2 0 t t' w 4) (33 ∷ 33 ∷ [])
-    ∷ gives (openingWords g t t' m (3 ∷ []) (4 ∷ [])) (2147483637 ∷ 36 ∷ 152 ∷ 33 ∷ 33 ∷ 33 ∷ [])
+    ∷ gives (foldedLevel 𝔽₁ 2 0 t t' w 4) (33 ∷ 33 ∷ [])
+    ∷ gives (openingWords 𝔽₁ g t t' m (3 ∷ []) (4 ∷ [])) (2147483637 ∷ 36 ∷ 152 ∷ 33 ∷ 33 ∷ 33 ∷ [])
     ∷ says (verdict 3 26 4 (0 ∷ 1 ∷ []) (2147483637 ∷ 36 ∷ 152 ∷ 33 ∷ 33 ∷ 33 ∷ [])) (0, 0, 0)
     ∷ says (verdict 3 27 4 (0 ∷ 1 ∷ []) (2147483637 ∷ 36 ∷ 152 ∷ 33 ∷ 33 ∷ 33 ∷ [])) (20, 1, 0)
-    ∷ gives (openingWords g t t' m (0 ∷ []) (1 ∷ [])) (5 ∷ 0 ∷ 2147483628 ∷ 12 ∷ 12 ∷ 12 ∷ [])
+    ∷ gives (openingWords 𝔽₁ g t t' m (0 ∷ []) (1 ∷ [])) (5 ∷ 0 ∷ 2147483628 ∷ 12 ∷ 12 ∷ 12 ∷ [])
     ∷ gives (word (eq K (elements 𝔽₁ (0 ∷ [])) (elements 𝔽₁ (1 ∷ []))) ∷ []) (0 ∷ [])
     ∷ says (verdict 0 5 1 (0 ∷ []) (5 ∷ 0 ∷ 2147483628 ∷ 12 ∷ 12 ∷ 12 ∷ [])) (0, 0, 0)
     ∷ says (verdict 0 5 1 (0 ∷ []) (5 ∷ 0 ∷ 2147483628 ∷ 13 ∷ 13 ∷ 13 ∷ [])) (23, 0, 0)
     ∷ []
 
-legal : LegalRow 1 2 g t t'
+legal : LegalRow 𝔽₁ 1 2 g t t'
 unfolding rowLengths rowWords rateOk all all₂
 legal = record { within = refl; lengths = refl; words = refl; legal = refl }
 
-encodes : codeword 1 g t t' m ≡ w
+encodes : codeword 𝔽₁ 1 g t t' m ≡ w
 unfolding F₁ W₁ elements toWords diagonal encode generator block times zip of addZ mulZ
 encodes = refl
 
 -- a fold of w, by the law: the base codeword of 5 + 7 a
-fold-4 : foldedLevel 2 0 t t' w 4 ≡ 33 ∷ 33 ∷ []
+fold-4 : foldedLevel 𝔽₁ 2 0 t t' w 4 ≡ 33 ∷ 33 ∷ []
 unfolding F₁ W₁ elements toWords diagonal encode generator block times zip of addZ mulZ
-fold-4 = ap (λ b. foldedLevel 2 0 t t' b 4) (sym encodes) ∙ fold-law 0 2 g t t' legal m 4 refl ∙ refl
+fold-4 = ap (λ b. foldedLevel 𝔽₁ 2 0 t t' b 4) (sym encodes) ∙ fold-law 𝔽₁ 0 2 g t t' legal m 4 refl ∙ refl
 
-fold-1 : foldedLevel 2 0 t t' w 1 ≡ 12 ∷ 12 ∷ []
+fold-1 : foldedLevel 𝔽₁ 2 0 t t' w 1 ≡ 12 ∷ 12 ∷ []
 unfolding F₁ W₁ elements toWords diagonal encode generator block times zip of addZ mulZ
-fold-1 = ap (λ b. foldedLevel 2 0 t t' b 1) (sym encodes) ∙ fold-law 0 2 g t t' legal m 1 refl ∙ refl
+fold-1 = ap (λ b. foldedLevel 𝔽₁ 2 0 t t' b 1) (sym encodes) ∙ fold-law 𝔽₁ 0 2 g t t' legal m 1 refl ∙ refl
 
 coefficients-are : MessageOf (pos 3 ∷ pos 5 ∷ pos 4 ∷ pos 10 ∷ []) (3 ∷ 2 ∷ 1 ∷ 4 ∷ [])
 unfolding F₁ W₁ elements table form monomial corner row sum prod bit exponentTo of addZ mulZ
@@ -147,7 +147,7 @@ flat a b k v e =
     ((a * 1 + b * k) / P, omega (arith, div-add-mod' (a * 1 + b * k) P))
 
 -- a + 2 b = 19 and a + 3 b = 26 leave only one a - 3 b
-not-both : (a b : Element) → encode F (lent g t t') 1 (a ∷ b ∷ []) ≡ elements 𝔽₁ spoilt → ⊥
+not-both : (a b : Element) → encode F (lent 𝔽₁ g t t') 1 (a ∷ b ∷ []) ≡ elements 𝔽₁ spoilt → ⊥
 unfolding F₁ W₁ elements toWords diagonal encode generator block times zip of addZ mulZ
 not-both a b e =
     let q = ap (toWords 𝔽₁) e in
@@ -160,16 +160,16 @@ not-both a b e =
     apart a b x y z p q s (yes l) = omega arith
     apart a b x y z p q s (no n) = omega arith
 
-no-codeword : Codeword F (lent g t t') 1 (elements 𝔽₁ spoilt) → ⊥
+no-codeword : Codeword F (lent 𝔽₁ g t t') 1 (elements 𝔽₁ spoilt) → ⊥
 no-codeword c = go (c .message) (c .sized) (c .encodes)
   where
-    go : (l : List Element) → length l ≡ 2 → encode F (lent g t t') 1 l ≡ elements 𝔽₁ spoilt → ⊥
+    go : (l : List Element) → length l ≡ 2 → encode F (lent 𝔽₁ g t t') 1 l ≡ elements 𝔽₁ spoilt → ⊥
     go [] s e = omega arith
     go (a ∷ []) s e = omega arith
     go (a ∷ b ∷ []) s e = not-both a b e
     go (a ∷ b ∷ x ∷ l) s e = omega arith
 
-nothing-due : (b old space : List ℕ) → length old ≡ 2 → length space ≡ 4 → judgeDecoding 1 2 g t t' b 2 4 ≡ done tt → judgeDecoding 1 2 g t t' b (length old) (length space) ≡ done tt
+nothing-due : (b old space : List ℕ) → length old ≡ 2 → length space ≡ 4 → judgeDecoding 𝔽₁ 1 2 g t t' b 2 4 ≡ done tt → judgeDecoding 𝔽₁ 1 2 g t t' b (length old) (length space) ≡ done tt
 nothing-due b old space p q e = rw (p, q) e
 
 decodes-w : Holds (decodes w m)
@@ -186,40 +186,40 @@ low-1 : (x : ℕ) → x < P → Low P (x ∷ [])
 low-1 x h = low-cons h (low-none P)
 
 -- the rounds and the final value by computing, the block by the law
-block-w : encode F (lent g t t') 1 (elements 𝔽₁ m) ≡ elements 𝔽₁ w
-block-w = sym (elements-words 𝔽₁ (encode F (lent g t t') 1 (elements 𝔽₁ m))) ∙ ap (elements 𝔽₁) encodes
+block-w : encode F (lent 𝔽₁ g t t') 1 (elements 𝔽₁ m) ≡ elements 𝔽₁ w
+block-w = sym (elements-words 𝔽₁ (encode F (lent 𝔽₁ g t t') 1 (elements 𝔽₁ m))) ∙ ap (elements 𝔽₁) encodes
 
-written-3 : openingWords g t t' m (3 ∷ []) (4 ∷ []) ≡ 2147483637 ∷ 36 ∷ 152 ∷ 33 ∷ 33 ∷ 33 ∷ []
+written-3 : openingWords 𝔽₁ g t t' m (3 ∷ []) (4 ∷ []) ≡ 2147483637 ∷ 36 ∷ 152 ∷ 33 ∷ 33 ∷ 33 ∷ []
 unfolding F₁ W₁ elements toWords diagonal encode generator block times zip zip₄ fold opening rounds blocks descend h final overCorners form monomial corner eq row sum prod bit fixed num of addZ mulZ subZ negZ
 written-3 =
     ap (λ l. 2147483637 ∷ 36 ∷ 152 ∷ 33 ∷ l)
     (ap (λ b. toWords 𝔽₁ (foldAlong F 2 (el 4) (elements 𝔽₁ t) (elements 𝔽₁ t') b)) block-w ∙ fold-4)
 
-written-0 : openingWords g t t' m (0 ∷ []) (1 ∷ []) ≡ 5 ∷ 0 ∷ 2147483628 ∷ 12 ∷ 12 ∷ 12 ∷ []
+written-0 : openingWords 𝔽₁ g t t' m (0 ∷ []) (1 ∷ []) ≡ 5 ∷ 0 ∷ 2147483628 ∷ 12 ∷ 12 ∷ 12 ∷ []
 unfolding F₁ W₁ elements toWords diagonal encode generator block times zip zip₄ fold opening rounds blocks descend h final overCorners form monomial corner eq row sum prod bit fixed num of addZ mulZ subZ negZ
 written-0 =
     ap (λ l. 5 ∷ 0 ∷ 2147483628 ∷ 12 ∷ l)
     (ap (λ b. toWords 𝔽₁ (foldAlong F 2 (el 1) (elements 𝔽₁ t) (elements 𝔽₁ t') b)) block-w ∙ fold-1)
 
-value-3 : valueWord m (3 ∷ []) ≡ 26
+value-3 : valueWord 𝔽₁ m (3 ∷ []) ≡ 26
 unfolding F₁ W₁ elements form monomial row sum prod bit of addZ mulZ
 value-3 = refl
 
-value-0 : valueWord m (0 ∷ []) ≡ 5
+value-0 : valueWord 𝔽₁ m (0 ∷ []) ≡ 5
 unfolding F₁ W₁ elements form monomial row sum prod bit of addZ mulZ
 value-0 = refl
 
 accepted-3 : verdict 3 26 4 (0 ∷ 1 ∷ []) (2147483637 ∷ 36 ∷ 152 ∷ 33 ∷ 33 ∷ 33 ∷ []) ≡ (0, 0, 0)
 unfolding queriesOk all
 accepted-3 =
-    sym (ap₂ (λ b o. numbersOf (verification 1 2 g t t' b (3 ∷ []) 26 (4 ∷ []) (0 ∷ 1 ∷ []) o)) encodes written-3)
-    ∙ opening-accepted 1 2 g t t' legal m (3 ∷ []) (4 ∷ []) (0 ∷ 1 ∷ []) refl refl refl (low-1 3 (lit< tt)) (low-1 4 (lit< tt)) refl 26 (sym value-3)
+    sym (ap₂ (λ b o. numbersOf (verification 𝔽₁ 1 2 g t t' b (3 ∷ []) 26 (4 ∷ []) (0 ∷ 1 ∷ []) o)) encodes written-3)
+    ∙ opening-accepted 𝔽₁ 1 2 g t t' legal m (3 ∷ []) (4 ∷ []) (0 ∷ 1 ∷ []) refl refl refl (low-1 3 (lit< tt)) (low-1 4 (lit< tt)) refl 26 (sym value-3)
 
 refused-3 : verdict 3 27 4 (0 ∷ 1 ∷ []) (2147483637 ∷ 36 ∷ 152 ∷ 33 ∷ 33 ∷ 33 ∷ []) ≡ (20, 1, 0)
 unfolding queriesOk all
 refused-3 =
-    sym (ap₂ (λ b o. numbersOf (verification 1 2 g t t' b (3 ∷ []) 27 (4 ∷ []) (0 ∷ 1 ∷ []) o)) encodes written-3)
-    ∙ opening-fails 1 2 g t t' legal m (3 ∷ []) (4 ∷ []) (0 ∷ 1 ∷ []) refl refl refl (low-1 3 (lit< tt)) (low-1 4 (lit< tt)) refl 27 (lit< tt) (λ e. omega (arith, e ∙ value-3))
+    sym (ap₂ (λ b o. numbersOf (verification 𝔽₁ 1 2 g t t' b (3 ∷ []) 27 (4 ∷ []) (0 ∷ 1 ∷ []) o)) encodes written-3)
+    ∙ opening-fails 𝔽₁ 1 2 g t t' legal m (3 ∷ []) (4 ∷ []) (0 ∷ 1 ∷ []) refl refl refl (low-1 3 (lit< tt)) (low-1 4 (lit< tt)) refl 27 (lit< tt) (λ e. omega (arith, e ∙ value-3))
 
 -- eq at z = 0 and r = 1
 eq-0 : word (eq K (elements 𝔽₁ (0 ∷ [])) (elements 𝔽₁ (1 ∷ []))) ∷ [] ≡ 0 ∷ []
@@ -229,8 +229,8 @@ eq-0 = refl
 accepted-0 : verdict 0 5 1 (0 ∷ []) (5 ∷ 0 ∷ 2147483628 ∷ 12 ∷ 12 ∷ 12 ∷ []) ≡ (0, 0, 0)
 unfolding queriesOk all
 accepted-0 =
-    sym (ap₂ (λ b o. numbersOf (verification 1 2 g t t' b (0 ∷ []) 5 (1 ∷ []) (0 ∷ []) o)) encodes written-0)
-    ∙ opening-accepted 1 2 g t t' legal m (0 ∷ []) (1 ∷ []) (0 ∷ []) refl refl refl (low-1 0 (lit< tt)) (low-1 1 (lit< tt)) refl 5 (sym value-0)
+    sym (ap₂ (λ b o. numbersOf (verification 𝔽₁ 1 2 g t t' b (0 ∷ []) 5 (1 ∷ []) (0 ∷ []) o)) encodes written-0)
+    ∙ opening-accepted 𝔽₁ 1 2 g t t' legal m (0 ∷ []) (1 ∷ []) (0 ∷ []) refl refl refl (low-1 0 (lit< tt)) (low-1 1 (lit< tt)) refl 5 (sym value-0)
 
 -- with 13 for 12 the sum, the final check (eq is 0) and the base checks hold; the line's value is 12
 line-12 : word (line F (el 1) (el 2) (el 2147483645) (el 19) (el 2147483638)) ≡ 12
@@ -240,11 +240,11 @@ line-12 = ap (λ l. getD l 0 0) fold-1
 abbrev o : List Element
 o = elements 𝔽₁ (5 ∷ 0 ∷ 2147483628 ∷ 13 ∷ 13 ∷ 13 ∷ [])
 
-first-spoilt : firstFailure (checks F 0 (lent g t t') (elements 𝔽₁ w) (elements 𝔽₁ (0 ∷ [])) (el 5) (elements 𝔽₁ (1 ∷ [])) (0 ∷ []) o) ≡ some (foldCheck 0 0)
+first-spoilt : firstFailure (checks F 0 (lent 𝔽₁ g t t') (elements 𝔽₁ w) (elements 𝔽₁ (0 ∷ [])) (el 5) (elements 𝔽₁ (1 ∷ [])) (0 ∷ []) o) ≡ some (foldCheck 0 0)
 unfolding F₁ W₁ elements diagonal checks sumsFrom foldHolds foldsAt foldsFrom places next blockOf finalSum overCorners form monomial corner eq row sum prod bit encode generator times zip num of addZ mulZ subZ negZ
 first-spoilt =
     first-holds (sumCheck 1) _ _ (same-true F _ _ (res-path refl))
-    ∙ first-holds finalCheck _ _ (same-true F _ _ (zero ∙ sym (through-1 K (inv (num K 2)) (F .mul-inv (num K 2) two₁) (el 5) (el 0) (el 2147483628))))
+    ∙ first-holds finalCheck _ _ (same-true F _ _ (zero ∙ sym (through-1 K (inv (num K 2)) (F .mul-inv (num K 2) (two 𝔽₁)) (el 5) (el 0) (el 2147483628))))
     ∙ first-holds (baseCheck 0) _ _ (same-true F _ _ (res-path refl))
     ∙ first-holds (baseCheck 1) _ _ (same-true F _ _ (res-path refl))
     ∙ first-fails (foldCheck 0 0) _ _ (same-false F _ _ (λ e. let n : _≡_ {A = ℕ} 12 13 = sym line-12 ∙ ap word e in omega arith))

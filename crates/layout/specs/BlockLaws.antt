@@ -7,13 +7,13 @@ use native.Mathlib.Omega.{arith}
 use lib.Dec.{ltb}
 use lib.ListN.{length, getD, take, drop, length-take, length-drop}
 use borrow.Author.Tests.{ltb-true, ltb-false, lt-ltb, le-ltb}
+use Rattle.algebra.specs.Field.{Field}
 use Rattle.algebra.specs.Flags.{cond-true, cond-false}
-use Rattle.algebra.specs.Words.{𝔽₁}
+use Rattle.algebra.specs.Words.{Words, PrimeField}
 use Rattle.algebra.specs.WordLists.{Low, low-take, low-drop, elements, length-elements, getD-elements}
 use Rattle.job.specs.Limits.{blockSize}
 use Rattle.basefold.specs.Layout.{finalAt, blockAt, blockOf, openingSize, carried}
 use Rattle.basefold.specs.Plain.{carried-plain, elements-block}
-use Rattle.residue.specs.Residues.{P, F, K, el}
 use Rattle.layout.specs.LayoutLaws.{block-within}
 
 -- of the top level, and of a lower one
@@ -35,36 +35,41 @@ block-part c d w o i {start} {n} h p q =
 pub part-within : (c d i : ℕ) {start n k : ℕ} → i < d → start ≡ blockAt c 0 d i → n ≡ blockSize c i → k ≡ openingSize c 0 d → start + n ≤ k
 part-within c d i h p q e = omega (arith, block-within c d i h)
 
-module _ (c d : ℕ) (w o : List ℕ) where
-  -- the word at k
-  pub block-word : (i k : ℕ) → getD (blockOf c 0 d (elements 𝔽₁ w) (elements 𝔽₁ o) i) k (K .𝟘) ≡ el (getD (blockOf c 0 d w o i) k 0)
-  block-word i k = ap (λ l. getD l k (K .𝟘)) (sym (elements-block 𝔽₁ c 0 d w o i)) ∙ getD-elements 𝔽₁ (blockOf c 0 d w o i) k
+module _ (𝓕 : PrimeField) where
+  open PrimeField 𝓕 using (modulus as P, field as F, words as W)
+  open Field F using (ring as K)
+  open Words W using (el)
 
-  pub low-block : Low P w → Low P o → (i : ℕ) → Low P (blockOf c 0 d w o i)
-  unfolding blockOf
-  low-block lw lo i = go (ltb i d)
-    where
-      go : (b : Bool) → Low P (cond b (take (c * 2 ^ i) (drop (blockAt c 0 d i) o)) w)
-      go true = low-take (c * 2 ^ i) (low-drop (blockAt c 0 d i) lo)
-      go false = lw
+  module _ (c d : ℕ) (w o : List ℕ) where
+    -- the word at k
+    pub block-word : (i k : ℕ) → getD (blockOf c 0 d (elements 𝓕 w) (elements 𝓕 o) i) k (K .𝟘) ≡ el (getD (blockOf c 0 d w o i) k 0)
+    block-word i k = ap (λ l. getD l k (K .𝟘)) (sym (elements-block 𝓕 c 0 d w o i)) ∙ getD-elements 𝓕 (blockOf c 0 d w o i) k
 
-  pub length-block : length w ≡ blockSize c d → length o ≡ openingSize c 0 d → (i : ℕ) → i ≤ d → length (blockOf c 0 d w o i) ≡ blockSize c i
-  unfolding blockOf
-  length-block lw lo i h = go (ltb i d) refl
-    where
-      go : (b : Bool) → ltb i d ≡ b → length (cond b (take (c * 2 ^ i) (drop (blockAt c 0 d i) o)) w) ≡ c * 2 ^ i
-      go true e =
-          let l = ltb-true i d e in
-          let m = block-within c d i l in
-          simp (length-take, length-drop) (omega arith)
-      go false e =
-          let l = ltb-false i d e in
-          let same : d ≡ i = omega arith in
-          lw ∙ ap (λ k. c * 2 ^ k) same
+    pub low-block : Low P w → Low P o → (i : ℕ) → Low P (blockOf c 0 d w o i)
+    unfolding blockOf
+    low-block lw lo i = go (ltb i d)
+      where
+        go : (b : Bool) → Low P (cond b (take (c * 2 ^ i) (drop (blockAt c 0 d i) o)) w)
+        go true = low-take (c * 2 ^ i) (low-drop (blockAt c 0 d i) lo)
+        go false = lw
 
--- what an opening carries is the one word v
-pub carried-is : (d : ℕ) (r o : List ℕ) → length r ≡ d → finalAt d < length o → carried F 0 (elements 𝔽₁ o) (length (elements 𝔽₁ r)) ≡ el (getD o (finalAt d) 0) ∷ []
-carried-is d r o e h =
-    let l = length-elements 𝔽₁ o in
-    ap (λ n. carried F 0 (elements 𝔽₁ o) n) (length-elements 𝔽₁ r ∙ e)
-    ∙ carried-plain F (elements 𝔽₁ o) d (omega arith) ∙ ap (λ a. a ∷ []) (getD-elements 𝔽₁ o (finalAt d))
+    pub length-block : length w ≡ blockSize c d → length o ≡ openingSize c 0 d → (i : ℕ) → i ≤ d → length (blockOf c 0 d w o i) ≡ blockSize c i
+    unfolding blockOf
+    length-block lw lo i h = go (ltb i d) refl
+      where
+        go : (b : Bool) → ltb i d ≡ b → length (cond b (take (c * 2 ^ i) (drop (blockAt c 0 d i) o)) w) ≡ c * 2 ^ i
+        go true e =
+            let l = ltb-true i d e in
+            let m = block-within c d i l in
+            simp (length-take, length-drop) (omega arith)
+        go false e =
+            let l = ltb-false i d e in
+            let same : d ≡ i = omega arith in
+            lw ∙ ap (λ k. c * 2 ^ k) same
+
+  -- what an opening carries is the one word v
+  pub carried-is : (d : ℕ) (r o : List ℕ) → length r ≡ d → finalAt d < length o → carried F 0 (elements 𝓕 o) (length (elements 𝓕 r)) ≡ el (getD o (finalAt d) 0) ∷ []
+  carried-is d r o e h =
+      let l = length-elements 𝓕 o in
+      ap (λ n. carried F 0 (elements 𝓕 o) n) (length-elements 𝓕 r ∙ e)
+      ∙ carried-plain F (elements 𝓕 o) d (omega arith) ∙ ap (λ a. a ∷ []) (getD-elements 𝓕 o (finalAt d))

@@ -9,6 +9,7 @@ use lib.ListN.{length, take, drop}
 use lib.Pow.{pow-pos}
 use lib.Seq.{take-at}
 use borrow.Author.Tests.{eqb-true, leb-true}
+use Rattle.algebra.specs.Words.{PrimeField}
 use Rattle.algebra.specs.Tests.{and-both}
 use Rattle.algebra.specs.WordLists.{Low}
 use Rattle.basefold.specs.Layout.{finalAt, openingSize}
@@ -16,53 +17,55 @@ use Rattle.job.specs.Outcome.{done}
 use Rattle.job.specs.OutcomeLaws.{require-done, both}
 use Rattle.job.specs.LimitLaws.{rate-most}
 use Rattle.polynomial.specs.Evaluation.{EvaluateInput}
-use Rattle.residue.specs.Residues.{P}
 use Rattle.residue.specs.Scans.{allBelow}
 use Rattle.residue.specs.ScanLaws.{all-below}
 use Rattle.parameters.specs.Parameters.{limits, rowLengths, rowWords}
 use Rattle.parameters.specs.ParameterLaws.{within, row-lengths, lent-coding}
 use Rattle.open.specs.Writing.{inputLengths, bufferLengths, writeLengths, inputWords, judgeWriting, WriteInput}
 
--- the job's tests have passed
-pub write-input : (d c : ℕ) (g t t' m z r : List ℕ) (o s : ℕ) → judgeWriting d c g t t' m z r o s ≡ done tt → WriteInput d g t t' m z r o s
-unfolding judgeWriting writeLengths inputLengths bufferLengths inputWords
-write-input d c g t t' m z r o s e =
-    let f = both (limits d c) e in
-    let i = within d c (sym (f .0)) in
-    let b = require-done (writeLengths d c (length g) (length t) (length t') (length m) (length z) (length r) o s) 3 (f .1) in
-    let k = require-done (rowWords g t t' && inputWords m z r) 4 (b .1) in
-    let l = and-both (rowLengths d c (length g) (length t) (length t')) _ (b .0) in
-    let n = and-both (inputLengths d (length m) (length z) (length r)) _ (l .1) in
-    let x = and-both (eqb (length m) (2 ^ d)) _ (n .0) in
-    let y = and-both (eqb (length z) d) _ (x .1) in
-    let u = and-both (eqb o (openingSize c 0 d)) _ (n .1) in
-    let w = and-both (rowWords g t t') _ (k .0) in
-    let p = and-both (allBelow m) _ (w .1) in
-    let q = and-both (allBelow z) _ (p .1) in
-    let row : length g ≡ c = row-lengths d c _ _ _ (l .0) .row in
-    record {
-      deep = leb-true _ _ (i .0);
-      wide = rw row (rate-most c (i .1));
-      coding = lent-coding d c g t t' (l .0) (w .0) (k .1);
-      message = eqb-true _ _ (x .0);
-      point = eqb-true _ _ (y .0);
-      challenges = eqb-true _ _ (y .1);
-      message-low = all-below m (p .0);
-      point-low = all-below z (q .0);
-      challenges-low = all-below r (q .1);
-      opens = eqb-true _ _ (u .0) ∙ ap (λ a. openingSize a 0 d) (sym row);
-      room = eqb-true _ _ (u .1);
-    }
+module _ (𝓕 : PrimeField) where
+  open PrimeField 𝓕 using (modulus as P)
 
-module _ (d : ℕ) (g t t' m z r : List ℕ) (o s : ℕ) (𝓦 : WriteInput d g t t' m z r o s) where
-  pub value-input : (y : List ℕ) → length y ≡ d → Low P y → EvaluateInput m y
-  value-input y e l = record { size = 𝓦 .message ∙ ap (λ k. 2 ^ k) (sym e); message = 𝓦 .message-low; point = l }
+  -- the job's tests have passed
+  pub write-input : (d c : ℕ) (g t t' m z r : List ℕ) (o s : ℕ) → judgeWriting 𝓕 d c g t t' m z r o s ≡ done tt → WriteInput 𝓕 d g t t' m z r o s
+  unfolding judgeWriting writeLengths inputLengths bufferLengths inputWords
+  write-input d c g t t' m z r o s e =
+      let f = both (limits d c) e in
+      let i = within d c (sym (f .0)) in
+      let b = require-done (writeLengths d c (length g) (length t) (length t') (length m) (length z) (length r) o s) 3 (f .1) in
+      let k = require-done (rowWords 𝓕 g t t' && inputWords 𝓕 m z r) 4 (b .1) in
+      let l = and-both (rowLengths d c (length g) (length t) (length t')) _ (b .0) in
+      let n = and-both (inputLengths d (length m) (length z) (length r)) _ (l .1) in
+      let x = and-both (eqb (length m) (2 ^ d)) _ (n .0) in
+      let y = and-both (eqb (length z) d) _ (x .1) in
+      let u = and-both (eqb o (openingSize c 0 d)) _ (n .1) in
+      let w = and-both (rowWords 𝓕 g t t') _ (k .0) in
+      let p = and-both (allBelow 𝓕 m) _ (w .1) in
+      let q = and-both (allBelow 𝓕 z) _ (p .1) in
+      let row : length g ≡ c = row-lengths d c _ _ _ (l .0) .row in
+      record {
+        deep = leb-true _ _ (i .0);
+        wide = rw row (rate-most c (i .1));
+        coding = lent-coding 𝓕 d c g t t' (l .0) (w .0) (k .1);
+        message = eqb-true _ _ (x .0);
+        point = eqb-true _ _ (y .0);
+        challenges = eqb-true _ _ (y .1);
+        message-low = all-below 𝓕 m (p .0);
+        point-low = all-below 𝓕 z (q .0);
+        challenges-low = all-below 𝓕 r (q .1);
+        opens = eqb-true _ _ (u .0) ∙ ap (λ a. openingSize a 0 d) (sym row);
+        room = eqb-true _ _ (u .1);
+      }
 
-  pub begun : (old work : List ℕ) → work ≡ m ++ drop (length m) old → take (2 ^ d) work ≡ m
-  begun old work e = ap (take (2 ^ d)) e ∙ take-at m (drop (length m) old) (2 ^ d) (𝓦 .message)
+  module _ (d : ℕ) (g t t' m z r : List ℕ) (o s : ℕ) (𝓦 : WriteInput 𝓕 d g t t' m z r o s) where
+    pub value-input : (y : List ℕ) → length y ≡ d → Low P y → EvaluateInput 𝓕 m y
+    value-input y e l = record { size = 𝓦 .message ∙ ap (λ k. 2 ^ k) (sym e); message = 𝓦 .message-low; point = l }
 
-  pub rounds-input : (old work : List ℕ) (n k : ℕ) → work ≡ m ++ drop (length m) old → n ≡ o → k ≡ s → WriteInput d g t t' (take (2 ^ d) work) z r n k
-  rounds-input old work n k e p q = rw (begun old work e, p, q) 𝓦
+    pub begun : (old work : List ℕ) → work ≡ m ++ drop (length m) old → take (2 ^ d) work ≡ m
+    begun old work e = ap (take (2 ^ d)) e ∙ take-at m (drop (length m) old) (2 ^ d) (𝓦 .message)
 
-  pub final-within : (n k : ℕ) → n ≡ o → k ≡ s → (finalAt d < n) × (0 < k)
-  final-within n k p q = (omega (arith, 𝓦 .opens), omega (arith, 𝓦 .room, pow-pos d))
+    pub rounds-input : (old work : List ℕ) (n k : ℕ) → work ≡ m ++ drop (length m) old → n ≡ o → k ≡ s → WriteInput 𝓕 d g t t' (take (2 ^ d) work) z r n k
+    rounds-input old work n k e p q = rw (begun old work e, p, q) 𝓦
+
+    pub final-within : (n k : ℕ) → n ≡ o → k ≡ s → (finalAt d < n) × (0 < k)
+    final-within n k p q = (omega (arith, 𝓦 .opens), omega (arith, 𝓦 .room, pow-pos d))

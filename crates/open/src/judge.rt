@@ -2,6 +2,7 @@
 ghost use mathlib.Core.Path.{_≡_};
 ghost use mathlib.Core.Bool.{_&&_};
 ghost use Prim.Native.Nat.{_≤_};
+ghost use Rattle.algebra.specs.Words.{𝔽₁};
 ghost use Rattle.job.specs.Outcome.{outcome};
 ghost use Rattle.job.specs.Limits.{maxDepth, maxRate};
 ghost use Rattle.parameters.specs.Parameters.{inLimits};
@@ -60,7 +61,7 @@ fn lengths_ok(
 
 // Whether all words are below the modulus, where those of row and diagonals are.
 fn words_ok(row: bool, m: &[u32], z: &[u32], r: &[u32]) -> bool
-    ensures { λ b. ⌜ b ≡ (row && inputWords (now (m .entry)) (now (z .entry)) (now (r .entry))) ⌝ }
+    ensures { λ b. ⌜ b ≡ (row && inputWords 𝔽₁ (now (m .entry)) (now (z .entry)) (now (r .entry))) ⌝ }
 {
     if !row {
         return false;
@@ -80,7 +81,7 @@ pub fn judge(
     o: usize,
     s: usize,
 ) -> Answer
-    ensures { λ a. ⌜ outcome a ≡ judgeWriting depth rate (now (g .entry)) (now (t .entry)) (now (t2 .entry)) (now (m .entry)) (now (z .entry)) (now (r .entry)) o s ⌝ }
+    ensures { λ a. ⌜ outcome a ≡ judgeWriting 𝔽₁ depth rate (now (g .entry)) (now (t .entry)) (now (t2 .entry)) (now (m .entry)) (now (z .entry)) (now (r .entry)) o s ⌝ }
 {
     let lengths = lengths_ok(
         depth,

@@ -1,5 +1,6 @@
 // Writing an opening.
 ghost use lib.ListN.{length};
+ghost use Rattle.algebra.specs.Words.{𝔽₁};
 ghost use Rattle.open.specs.Writing.{WriteInput, WriteResult, Wrote};
 use job::Answer;
 use job::Refusal;
@@ -27,8 +28,8 @@ fn write_words(
     opening: &mut [u32],
     work: &mut [u32],
 ) -> Residue
-    requires { ⌜ WriteInput depth (now g) (now t) (now t2) (now message) (now z) (now r) (length (now opening)) (length (now work)) ⌝ }
-    ensures { λ v. ⌜ WriteResult (now (g .entry)) (now (t .entry)) (now (t2 .entry)) (now (message .entry)) (now (z .entry)) (now (r .entry)) (length (now (work .entry))) v (now (opening .exit)) (now (work .exit)) ⌝ }
+    requires { ⌜ WriteInput 𝔽₁ depth (now g) (now t) (now t2) (now message) (now z) (now r) (length (now opening)) (length (now work)) ⌝ }
+    ensures { λ v. ⌜ WriteResult 𝔽₁ (now (g .entry)) (now (t .entry)) (now (t2 .entry)) (now (message .entry)) (now (z .entry)) (now (r .entry)) (length (now (work .entry))) v (now (opening .exit)) (now (work .exit)) ⌝ }
 {
     let v = polynomial::value(message, z);
     steps::begin(message, work);
@@ -50,7 +51,7 @@ pub fn write_opening(
     opening: &mut [u32],
     work: &mut [u32],
 ) -> Written
-    ensures { λ a. ⌜ Wrote depth rate (now (g .entry)) (now (t .entry)) (now (t2 .entry)) (now (message .entry)) (now (z .entry)) (now (r .entry)) (now (opening .entry)) (now (work .entry)) a (now (opening .exit)) (now (work .exit)) ⌝ }
+    ensures { λ a. ⌜ Wrote 𝔽₁ depth rate (now (g .entry)) (now (t .entry)) (now (t2 .entry)) (now (message .entry)) (now (z .entry)) (now (r .entry)) (now (opening .entry)) (now (work .entry)) a (now (opening .exit)) (now (work .exit)) ⌝ }
 {
     let answer = judge::judge(
         depth,

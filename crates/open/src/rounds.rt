@@ -3,6 +3,7 @@ ghost use mathlib.Core.Path.{_≡_};
 ghost use mathlib.Core.Bool.{true};
 ghost use Prim.Native.Nat.{_+_, _^_, _<_};
 ghost use lib.ListN.{length, take, getD, set};
+ghost use Rattle.algebra.specs.Words.{𝔽₁};
 ghost use Rattle.algebra.specs.Lists.{put};
 ghost use Rattle.basefold.specs.Layout.{finalAt, blockAt};
 ghost use Rattle.parameters.specs.Lent.{codeword};
@@ -35,8 +36,8 @@ fn block(
     opening: &mut [u32],
     work: &[u32],
 )
-    requires { ⌜ BlockInput depth i (now g) (now t) (now t2) (now r) (now opening) (now work) ⌝ }
-    ensures { λ _. ⌜ now (opening .exit) ≡ put (blockAt (length (now (g .entry))) 0 depth i) (codeword i (now (g .entry)) (now (t .entry)) (now (t2 .entry)) (take (2 ^ i) (now (work .entry)))) (now (opening .entry)) ⌝ }
+    requires { ⌜ BlockInput 𝔽₁ depth i (now g) (now t) (now t2) (now r) (now opening) (now work) ⌝ }
+    ensures { λ _. ⌜ now (opening .exit) ≡ put (blockAt (length (now (g .entry))) 0 depth i) (codeword 𝔽₁ i (now (g .entry)) (now (t .entry)) (now (t2 .entry)) (take (2 ^ i) (now (work .entry)))) (now (opening .entry)) ⌝ }
 {
     if folds(depth, i) {
         descend::fold_block(depth, i, g, t, t2, r, opening);
@@ -58,8 +59,8 @@ fn round(
     opening: &mut [u32],
     work: &mut [u32],
 ) -> Residue
-    requires { ⌜ RoundInput depth i w (now g) (now t) (now t2) (now z) (now r) (now opening) (now work) ⌝ }
-    ensures { λ v. ⌜ RoundResult depth i w (now (g .entry)) (now (t .entry)) (now (t2 .entry)) (now (z .entry)) (now (r .entry)) (now (opening .entry)) (now (work .entry)) v (now (opening .exit)) (now (work .exit)) ⌝ }
+    requires { ⌜ RoundInput 𝔽₁ depth i w (now g) (now t) (now t2) (now z) (now r) (now opening) (now work) ⌝ }
+    ensures { λ v. ⌜ RoundResult 𝔽₁ depth i w (now (g .entry)) (now (t .entry)) (now (t2 .entry)) (now (z .entry)) (now (r .entry)) (now (opening .entry)) (now (work .entry)) v (now (opening .exit)) (now (work .exit)) ⌝ }
 {
     steps::give_round(depth, i, w, z, opening, work);
     let v = steps::take_challenge(i, w, z, r, work);
@@ -78,8 +79,8 @@ pub fn rounds(
     opening: &mut [u32],
     work: &mut [u32],
 )
-    requires { ⌜ WriteInput depth (now g) (now t) (now t2) (take (2 ^ depth) (now work)) (now z) (now r) (length (now opening)) (length (now work)) ⌝ }
-    ensures { λ _. ⌜ set (now (opening .exit)) (finalAt depth) (getD (now (work .exit)) 0 0) ≡ openingWords (now (g .entry)) (now (t .entry)) (now (t2 .entry)) (take (2 ^ depth) (now (work .entry))) (now (z .entry)) (now (r .entry)) ⌝ }
+    requires { ⌜ WriteInput 𝔽₁ depth (now g) (now t) (now t2) (take (2 ^ depth) (now work)) (now z) (now r) (length (now opening)) (length (now work)) ⌝ }
+    ensures { λ _. ⌜ set (now (opening .exit)) (finalAt depth) (getD (now (work .exit)) 0 0) ≡ openingWords 𝔽₁ (now (g .entry)) (now (t .entry)) (now (t2 .entry)) (take (2 ^ depth) (now (work .entry))) (now (z .entry)) (now (r .entry)) ⌝ }
 {
     let mut w = Residue::ONE;
     let mut i = depth;

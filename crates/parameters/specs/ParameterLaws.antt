@@ -7,12 +7,12 @@ use native.Mathlib.Omega.{arith}
 use lib.Dec.{eqb}
 use lib.ListN.{length}
 use borrow.Author.Tests.{eqb-true}
+use Rattle.algebra.specs.Words.{PrimeField}
 use Rattle.algebra.specs.Tests.{and-both, and-assoc}
 use Rattle.algebra.specs.WordLists.{Low}
 use Rattle.job.specs.Outcome.{Outcome, refused, done, require, _⨾_}
 use Rattle.job.specs.OutcomeLaws.{require-done, held, require-number, after-number}
 use Rattle.job.specs.Limits.{depthOk, rateOk, diagonalsSize}
-use Rattle.residue.specs.Residues.{P}
 use Rattle.residue.specs.Scans.{allBelow, noneZero, allDiffer}
 use Rattle.residue.specs.ScanLaws.{all-below}
 use Rattle.parameters.specs.Lent.{Coding}
@@ -55,14 +55,6 @@ judge-guarded d c g t t' l w = by (depthOk d) (rateOk c) l
     by true false l = refl
     by false b l = refl
 
--- a job is judged by flags: row is that of the words of g, T and T', and w asks the other words too
-pub judged-by : (d c : ℕ) (g t t' : List ℕ) (L W : Bool) {l row apart w : Bool} {out : Outcome (Unit {0})}
-    → l ≡ (inLimits d c && L) → RowScanned l g t t' row apart → w ≡ (row && W) → out ≡ judgeFlags d c g l w apart → out ≡ judgeRow d c g t t' L (rowWords g t t' && W)
-judged-by d c g t t' L W {l} {row} {apart} {w} e 𝓢 f h =
-    let words : w ≡ (l && (rowWords g t t' && W)) = f ∙ ap (λ b. b && W) (𝓢 .words-is) ∙ and-assoc l (rowWords g t t') W in
-    h ∙ (λ i. judgeFlags d c g (e i) ((words ∙ ap (λ b. b && (rowWords g t t' && W)) e) i) ((𝓢 .apart-is ∙ ap (λ b. b && allDiffer t t') e) i))
-    ∙ judge-guarded d c g t t' L (rowWords g t t' && W)
-
 -- its refusals are 1 to 6
 pub judge-number : (Q : ℕ → Type 0) → ((k : ℕ) → 1 ≤ k → k ≤ 6 → Q k) → (d c : ℕ) (g t t' : List ℕ) (l w : Bool) {n : ℕ} → judgeRow d c g t t' l w ≡ refused n → Q n
 judge-number Q q d c g t t' l w =
@@ -92,22 +84,33 @@ row-lengths d c g t t' e =
     let b = and-both (eqb t (diagonalsSize c d)) _ (a .1) in
     record { row = eqb-true _ _ (a .0); first = eqb-true _ _ (b .0); second = eqb-true _ _ (b .1) }
 
-pub record RowWords (g t t' : List ℕ) : Type 0 where
-  pub row : Low P g
-  pub first : Low P t
-  pub second : Low P t'
+module _ (𝓕 : PrimeField) where
+  open PrimeField 𝓕 using (modulus as P)
 
-pub row-words : (g t t' : List ℕ) → rowWords g t t' ≡ true → RowWords g t t'
-unfolding rowWords
-row-words g t t' e =
-    let a = and-both (allBelow g) _ e in
-    let b = and-both (allBelow t) _ (a .1) in
-    record { row = all-below g (a .0); first = all-below t (b .0); second = all-below t' (b .1) }
+  -- a job is judged by flags: row is that of the words of g, T and T', and w asks the other words too
+  pub judged-by : (d c : ℕ) (g t t' : List ℕ) (L W : Bool) {l row apart w : Bool} {out : Outcome (Unit {0})}
+      → l ≡ (inLimits d c && L) → RowScanned 𝓕 l g t t' row apart → w ≡ (row && W) → out ≡ judgeFlags d c g l w apart → out ≡ judgeRow d c g t t' L (rowWords 𝓕 g t t' && W)
+  judged-by d c g t t' L W {l} {row} {apart} {w} e 𝓢 f h =
+      let words : w ≡ (l && (rowWords 𝓕 g t t' && W)) = f ∙ ap (λ b. b && W) (𝓢 .words-is) ∙ and-assoc l (rowWords 𝓕 g t t') W in
+      h ∙ (λ i. judgeFlags d c g (e i) ((words ∙ ap (λ b. b && (rowWords 𝓕 g t t' && W)) e) i) ((𝓢 .apart-is ∙ ap (λ b. b && allDiffer t t') e) i))
+      ∙ judge-guarded d c g t t' L (rowWords 𝓕 g t t' && W)
 
--- where no refusal is due, row and diagonals make a code
-pub lent-coding : (d c : ℕ) (g t t' : List ℕ) → rowLengths d c (length g) (length t) (length t') ≡ true → rowWords g t t' ≡ true → legalRow g t t' ≡ done tt → Coding d g t t'
-lent-coding d c g t t' p q r =
-    let l = row-lengths d c (length g) (length t) (length t') p in
-    let w = row-words g t t' q in
-    let n = held (allDiffer t t') 6 (require-done (noneZero g) 5 r .1) in
-    coding d g t t' (l .first ∙ ap (λ k. diagonalsSize k d) (sym (l .row))) (l .second ∙ ap (λ k. diagonalsSize k d) (sym (l .row))) (w .row) (w .first) (w .second) n
+  pub record RowWords (g t t' : List ℕ) : Type 0 where
+    pub row : Low P g
+    pub first : Low P t
+    pub second : Low P t'
+
+  pub row-words : (g t t' : List ℕ) → rowWords 𝓕 g t t' ≡ true → RowWords g t t'
+  unfolding rowWords
+  row-words g t t' e =
+      let a = and-both (allBelow 𝓕 g) _ e in
+      let b = and-both (allBelow 𝓕 t) _ (a .1) in
+      record { row = all-below 𝓕 g (a .0); first = all-below 𝓕 t (b .0); second = all-below 𝓕 t' (b .1) }
+
+  -- where no refusal is due, row and diagonals make a code
+  pub lent-coding : (d c : ℕ) (g t t' : List ℕ) → rowLengths d c (length g) (length t) (length t') ≡ true → rowWords 𝓕 g t t' ≡ true → legalRow g t t' ≡ done tt → Coding 𝓕 d g t t'
+  lent-coding d c g t t' p q r =
+      let l = row-lengths d c (length g) (length t) (length t') p in
+      let w = row-words g t t' q in
+      let n = held (allDiffer t t') 6 (require-done (noneZero g) 5 r .1) in
+      coding 𝓕 d g t t' (l .first ∙ ap (λ k. diagonalsSize k d) (sym (l .row))) (l .second ∙ ap (λ k. diagonalsSize k d) (sym (l .row))) (w .row) (w .first) (w .second) n

@@ -4,6 +4,7 @@ use mathlib.Core.Bool.{Bool, _&&_}
 use mathlib.Core.List.{List}
 use Prim.Native.Nat.{ℕ}
 use lib.Dec.{eqb}
+use Rattle.algebra.specs.Words.{PrimeField}
 use Rattle.job.specs.Outcome.{Outcome, require, _⨾_}
 use Rattle.job.specs.Limits.{depthOk, rateOk, diagonalsSize}
 use Rattle.residue.specs.Scans.{allBelow, noneZero, allDiffer}
@@ -19,16 +20,8 @@ inLimits d c = depthOk d && rateOk c
 unfoldable pub rowLengths : ℕ → ℕ → ℕ → ℕ → ℕ → Bool
 rowLengths d c g t t' = eqb g c && (eqb t (diagonalsSize c d) && eqb t' (diagonalsSize c d))
 
-unfoldable pub rowWords : List ℕ → List ℕ → List ℕ → Bool
-rowWords g t t' = allBelow g && (allBelow t && allBelow t')
-
 abbrev pub legalRow : List ℕ → List ℕ → List ℕ → Outcome (Unit {0})
 legalRow g t t' = require (noneZero g) 5 ⨾ require (allDiffer t t') 6
-
--- what one pass over them finds: the tests for 4 and 6, where the lengths are right
-pub record RowScanned (lengths : Bool) (g t t' : List ℕ) (words apart : Bool) : Type 0 where
-  pub words-is : words ≡ (lengths && rowWords g t t')
-  pub apart-is : apart ≡ (lengths && allDiffer t t')
 
 -- the refusals 1 to 6 by flags
 abbrev pub judgeFlags : ℕ → ℕ → List ℕ → Bool → Bool → Bool → Outcome (Unit {0})
@@ -37,3 +30,12 @@ judgeFlags d c g lengths words apart = limits d c ⨾ require lengths 3 ⨾ requ
 -- a job's refusals 1 to 6, by its own tests of all lengths and of all words
 abbrev pub judgeRow : ℕ → ℕ → List ℕ → List ℕ → List ℕ → Bool → Bool → Outcome (Unit {0})
 judgeRow d c g t t' lengths words = limits d c ⨾ require lengths 3 ⨾ require words 4 ⨾ legalRow g t t'
+
+module _ (𝓕 : PrimeField) where
+  unfoldable pub rowWords : List ℕ → List ℕ → List ℕ → Bool
+  rowWords g t t' = allBelow 𝓕 g && (allBelow 𝓕 t && allBelow 𝓕 t')
+
+  -- what one pass over them finds: the tests for 4 and 6, where the lengths are right
+  pub record RowScanned (lengths : Bool) (g t t' : List ℕ) (words apart : Bool) : Type 0 where
+    pub words-is : words ≡ (lengths && rowWords g t t')
+    pub apart-is : apart ≡ (lengths && allDiffer t t')

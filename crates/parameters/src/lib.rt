@@ -1,6 +1,7 @@
 // What jobs that are lent a base row and the diagonals of all levels judge of them.
 ghost use mathlib.Core.Path.{_≡_};
 ghost use mathlib.Core.Bool.{_&&_};
+ghost use Rattle.algebra.specs.Words.{𝔽₁};
 ghost use Rattle.job.specs.Outcome.{outcome};
 ghost use Rattle.residue.specs.Scans.{allBelow, noneZero};
 ghost use Rattle.parameters.specs.Parameters.{inLimits, rowLengths, RowScanned, judgeFlags};
@@ -43,7 +44,7 @@ pub struct RowScan {
 }
 
 pub fn scan_row(lengths: bool, g: &[u32], t: &[u32], t2: &[u32]) -> RowScan
-    ensures { λ r. ⌜ RowScanned lengths (now (g .entry)) (now (t .entry)) (now (t2 .entry)) (r .words) (r .apart) ⌝ }
+    ensures { λ r. ⌜ RowScanned 𝔽₁ lengths (now (g .entry)) (now (t .entry)) (now (t2 .entry)) (r .words) (r .apart) ⌝ }
 {
     if !lengths {
         return RowScan {
@@ -61,7 +62,7 @@ pub fn scan_row(lengths: bool, g: &[u32], t: &[u32], t2: &[u32]) -> RowScan
 
 // Whether all words of a message or block are below the modulus too.
 pub fn all_words_ok(row: bool, m: &[u32]) -> bool
-    ensures { λ r. ⌜ r ≡ (row && allBelow (now (m .entry))) ⌝ }
+    ensures { λ r. ⌜ r ≡ (row && allBelow 𝔽₁ (now (m .entry))) ⌝ }
 {
     if !row {
         return false;

@@ -5,12 +5,12 @@ use mathlib.Core.List.{List}
 use Prim.Native.Nat.{ℕ, _^_}
 use lib.Dec.{eqb}
 use lib.ListN.{length}
-use Rattle.algebra.specs.Words.{𝔽₁}
+use Rattle.algebra.specs.Field.{Field}
+use Rattle.algebra.specs.Words.{Words, PrimeField}
 use Rattle.algebra.specs.WordLists.{Low, elements}
 use Rattle.job.specs.Outcome.{Outcome, refused, done, number, require, _⨾_}
 use Rattle.job.specs.Limits.{depthOk}
 use Rattle.multilinear.specs.Polynomial.{poly}
-use Rattle.residue.specs.Residues.{P, K, word}
 use Rattle.residue.specs.Scans.{allBelow}
 use Rattle.polynomial.specs.declared.Evaluation.{Evaluation}
 use Rattle.polynomial.specs.declared.Evaluation.the-variants.{Value, Refused}
@@ -24,15 +24,20 @@ evaluationOutcome (Refused r) = refused (number r)
 unfoldable pub evaluateLengths : ℕ → ℕ → ℕ → Bool
 evaluateLengths d m z = eqb m (2 ^ d) && eqb z d
 
-unfoldable pub judgeEvaluating : ℕ → List ℕ → List ℕ → Outcome (Unit {0})
-judgeEvaluating d m z = require (depthOk d) 1 ⨾ require (evaluateLengths d (length m) (length z)) 3 ⨾ require (allBelow m && allBelow z) 4
+module _ (𝓕 : PrimeField) where
+  open PrimeField 𝓕 using (modulus as P, field as F, words as W)
+  open Field F using (ring as K)
+  open Words W using (val as word)
 
--- the polynomial's value at the point
-abbrev pub evaluation : ℕ → List ℕ → List ℕ → Outcome ℕ
-evaluation d m z = judgeEvaluating d m z ⨾ done (word (poly K (elements 𝔽₁ m) (elements 𝔽₁ z)))
+  unfoldable pub judgeEvaluating : ℕ → List ℕ → List ℕ → Outcome (Unit {0})
+  judgeEvaluating d m z = require (depthOk d) 1 ⨾ require (evaluateLengths d (length m) (length z)) 3 ⨾ require (allBelow 𝓕 m && allBelow 𝓕 z) 4
 
--- what the work is lent: a word for each set of variables
-pub record EvaluateInput (m z : List ℕ) : Type 0 where
-  pub size : length m ≡ 2 ^ length z
-  pub message : Low P m
-  pub point : Low P z
+  -- the polynomial's value at the point
+  abbrev pub evaluation : ℕ → List ℕ → List ℕ → Outcome ℕ
+  evaluation d m z = judgeEvaluating d m z ⨾ done (word (poly K (elements 𝓕 m) (elements 𝓕 z)))
+
+  -- what the work is lent: a word for each set of variables
+  pub record EvaluateInput (m z : List ℕ) : Type 0 where
+    pub size : length m ≡ 2 ^ length z
+    pub message : Low P m
+    pub point : Low P z

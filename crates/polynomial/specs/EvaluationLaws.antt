@@ -6,42 +6,45 @@ use native.Mathlib.Nat.{two-pow-succ}
 use native.Mathlib.Omega.{arith}
 use lib.ListN.{length, take, drop, length-take, length-drop}
 use lib.Seq.{take-all}
+use Rattle.algebra.specs.Words.{PrimeField}
 use Rattle.algebra.specs.WordLists.{Low, low-take, low-drop}
-use Rattle.residue.specs.Residues.{P}
 use Rattle.polynomial.specs.Evaluation.{EvaluateInput}
 
 -- the variables below the top one
 abbrev pub lower : List ℕ → List ℕ
 lower z = take (length z - 1) z
 
-module _ (m z : List ℕ) (𝓔 : EvaluateInput m z) (lo : 0 < length z) where
-  twice : length m ≡ 2 ^ (length z - 1) + 2 ^ (length z - 1)
-  twice = let q : length z ≡ suc (length z - 1) = omega arith in 𝓔 .size ∙ ap (λ k. 2 ^ k) q ∙ two-pow-succ (length z - 1)
+module _ (𝓕 : PrimeField) where
+  open PrimeField 𝓕 using (modulus as P)
 
-  pub half-is : length m / 2 ≡ 2 ^ (length z - 1)
-  half-is = omega (arith, twice)
+  module _ (m z : List ℕ) (𝓔 : EvaluateInput 𝓕 m z) (lo : 0 < length z) where
+    twice : length m ≡ 2 ^ (length z - 1) + 2 ^ (length z - 1)
+    twice = let q : length z ≡ suc (length z - 1) = omega arith in 𝓔 .size ∙ ap (λ k. 2 ^ k) q ∙ two-pow-succ (length z - 1)
 
-  pub length-lower : length (lower z) ≡ length z - 1
-  length-lower = length-take (length z - 1) z ∙ omega arith
+    pub half-is : length m / 2 ≡ 2 ^ (length z - 1)
+    half-is = omega (arith, twice)
 
-  lower-low : Low P (lower z)
-  lower-low = low-take (length z - 1) (𝓔 .point)
+    pub length-lower : length (lower z) ≡ length z - 1
+    length-lower = length-take (length z - 1) z ∙ omega arith
 
-  pub rest : take (length m - length m / 2) (drop (length m / 2) m) ≡ drop (length m / 2) m
-  rest = take-all (length m - length m / 2) (drop (length m / 2) m) (omega (arith, length-drop (length m / 2) m))
+    lower-low : Low P (lower z)
+    lower-low = low-take (length z - 1) (𝓔 .point)
 
-  pub left-input : EvaluateInput (take (length m / 2) m) (lower z)
-  left-input =
-      record {
-        size = length-take (length m / 2) m ∙ omega (arith, half-is, twice) ∙ half-is ∙ ap (λ k. 2 ^ k) (sym length-lower);
-        message = low-take (length m / 2) (𝓔 .message);
-        point = lower-low;
-      }
+    pub rest : take (length m - length m / 2) (drop (length m / 2) m) ≡ drop (length m / 2) m
+    rest = take-all (length m - length m / 2) (drop (length m / 2) m) (omega (arith, length-drop (length m / 2) m))
 
-  pub right-input : EvaluateInput (take (length m - length m / 2) (drop (length m / 2) m)) (lower z)
-  right-input =
-      record {
-        size = ap length rest ∙ length-drop (length m / 2) m ∙ omega (arith, half-is, twice) ∙ half-is ∙ ap (λ k. 2 ^ k) (sym length-lower);
-        message = low-take (length m - length m / 2) (low-drop (length m / 2) (𝓔 .message));
-        point = lower-low;
-      }
+    pub left-input : EvaluateInput 𝓕 (take (length m / 2) m) (lower z)
+    left-input =
+        record {
+          size = length-take (length m / 2) m ∙ omega (arith, half-is, twice) ∙ half-is ∙ ap (λ k. 2 ^ k) (sym length-lower);
+          message = low-take (length m / 2) (𝓔 .message);
+          point = lower-low;
+        }
+
+    pub right-input : EvaluateInput 𝓕 (take (length m - length m / 2) (drop (length m / 2) m)) (lower z)
+    right-input =
+        record {
+          size = ap length rest ∙ length-drop (length m / 2) m ∙ omega (arith, half-is, twice) ∙ half-is ∙ ap (λ k. 2 ^ k) (sym length-lower);
+          message = low-take (length m - length m / 2) (low-drop (length m / 2) (𝓔 .message));
+          point = lower-low;
+        }

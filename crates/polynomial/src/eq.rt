@@ -12,7 +12,7 @@ use residue::Residue;
 // z x + (1 - z)(1 - x)
 pub fn factor(z: Residue, x: Residue) -> Residue
     requires { ⌜ Low z × Low x ⌝ }
-    ensures { λ r. ⌜ r .0 ≡ word (factorOf (elem z) (elem x)) ⌝ }
+    ensures { λ r. ⌜ r .0 ≡ word (factorOf 𝔽₁ (elem z) (elem x)) ⌝ }
 {
     let both = z.times(x);
     let not_z = Residue::ONE.minus(z);
@@ -23,7 +23,7 @@ pub fn factor(z: Residue, x: Residue) -> Residue
 // The factor of variable i.
 fn factor_at(i: usize, z: &[u32], x: &[u32]) -> Residue
     requires { ⌜ (LowWords P (now z)) × (LowWords P (now x)) × (i < length (now z)) × (i < length (now x)) ⌝ }
-    ensures { λ r. ⌜ r .0 ≡ word (factorOf (el (getD (now (z .entry)) i 0)) (el (getD (now (x .entry)) i 0))) ⌝ }
+    ensures { λ r. ⌜ r .0 ≡ word (factorOf 𝔽₁ (el (getD (now (z .entry)) i 0)) (el (getD (now (x .entry)) i 0))) ⌝ }
 {
     factor(Residue::new(z[i]), Residue::new(x[i]))
 }

@@ -27,7 +27,7 @@ pub enum Evaluation {
 // By the top variable: the value of the left half plus that variable times the value of the right half. When only low variables are left, it is
 // the sum of coefficients times monomials, which w has.
 fn by_top(w: &[u32; 64], m: &[u32], z: &[u32]) -> Residue
-    requires { ⌜ EvaluateInput (now m) (now z) × Monomials (now w) (now z) ⌝ }
+    requires { ⌜ EvaluateInput 𝔽₁ (now m) (now z) × Monomials 𝔽₁ (now w) (now z) ⌝ }
     ensures { λ v. ⌜ v .0 ≡ word (poly K (elements 𝔽₁ (now (m .entry))) (elements 𝔽₁ (now (z .entry)))) ⌝ }
 {
     let d = z.len();
@@ -43,7 +43,7 @@ fn by_top(w: &[u32; 64], m: &[u32], z: &[u32]) -> Residue
 
 // The monomials of the low variables are made once, for all parts of the message.
 pub fn value(m: &[u32], z: &[u32]) -> Residue
-    requires { ⌜ EvaluateInput (now m) (now z) ⌝ }
+    requires { ⌜ EvaluateInput 𝔽₁ (now m) (now z) ⌝ }
     ensures { λ v. ⌜ v .0 ≡ word (poly K (elements 𝔽₁ (now (m .entry))) (elements 𝔽₁ (now (z .entry)))) ⌝ }
 {
     let mut w = [0u32; 64];
@@ -65,7 +65,7 @@ fn lengths_ok(depth: u32, m: usize, z: usize) -> bool
 }
 
 fn words_ok(m: &[u32], z: &[u32]) -> bool
-    ensures { λ r. ⌜ r ≡ (allBelow (now (m .entry)) && allBelow (now (z .entry))) ⌝ }
+    ensures { λ r. ⌜ r ≡ (allBelow 𝔽₁ (now (m .entry)) && allBelow 𝔽₁ (now (z .entry))) ⌝ }
 {
     if !scan::all_below(m) {
         return false;
@@ -75,7 +75,7 @@ fn words_ok(m: &[u32], z: &[u32]) -> bool
 
 // The tests are made before any refusal, which costs a refused call one scan.
 fn judge(depth: u32, m: &[u32], z: &[u32]) -> Answer
-    ensures { λ r. ⌜ outcome r ≡ judgeEvaluating depth (now (m .entry)) (now (z .entry)) ⌝ }
+    ensures { λ r. ⌜ outcome r ≡ judgeEvaluating 𝔽₁ depth (now (m .entry)) (now (z .entry)) ⌝ }
 {
     let shallow = job::depth_ok(depth);
     let sized = lengths_ok(depth, m.len(), z.len());
@@ -86,7 +86,7 @@ fn judge(depth: u32, m: &[u32], z: &[u32]) -> Answer
 }
 
 pub fn evaluate(depth: u32, message: &[u32], point: &[u32]) -> Evaluation
-    ensures { λ r. ⌜ evaluationOutcome r ≡ evaluation depth (now (message .entry)) (now (point .entry)) ⌝ }
+    ensures { λ r. ⌜ evaluationOutcome r ≡ evaluation 𝔽₁ depth (now (message .entry)) (now (point .entry)) ⌝ }
 {
     let answer = judge(depth, message, point);
     match answer {

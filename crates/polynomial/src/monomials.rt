@@ -1,6 +1,7 @@
 // The monomials of the low variables: in place b the product of those variables whose bit in b is set.
 ghost use mathlib.Core.Path.{_≡_};
 ghost use lib.ListN.{length};
+ghost use Rattle.algebra.specs.Words.{𝔽₁};
 ghost use Rattle.algebra.specs.WordLists.{Low};
 ghost use Rattle.residue.specs.Residues.{P};
 ghost use Rattle.polynomial.specs.Monomials.{Monomials, Extensible, Extended};
@@ -12,8 +13,8 @@ pub const LOW: usize = 6;
 
 // One variable more: the monomials with x follow those without it.
 fn extend(w: &mut [u32], size: usize, x: u32)
-    requires { ⌜ Extensible size x (now w) ⌝ }
-    ensures { λ _. ⌜ Extended size x (now (w .entry)) (now (w .exit)) ⌝ }
+    requires { ⌜ Extensible 𝔽₁ size x (now w) ⌝ }
+    ensures { λ _. ⌜ Extended 𝔽₁ size x (now (w .entry)) (now (w .exit)) ⌝ }
 {
     let mut b = 0;
     while b < size {
@@ -25,7 +26,7 @@ fn extend(w: &mut [u32], size: usize, x: u32)
 // The words past those of the point's variables are left as they are.
 pub fn fill(w: &mut [u32], z: &[u32])
     requires { ⌜ (length (now w) ≡ 64) × Low P (now z) ⌝ }
-    ensures { λ _. ⌜ Monomials (now (w .exit)) (now (z .entry)) ⌝ }
+    ensures { λ _. ⌜ Monomials 𝔽₁ (now (w .exit)) (now (z .entry)) ⌝ }
 {
     let k = scan::shorter(z.len(), LOW);
     w[0] = 1;

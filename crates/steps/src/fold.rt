@@ -1,5 +1,6 @@
 // What is left of a message, folded by a challenge.
 ghost use mathlib.Core.Path.{_≡_};
+ghost use Rattle.algebra.specs.Words.{𝔽₁};
 ghost use Rattle.residue.specs.Residues.{elem};
 ghost use Rattle.steps.specs.Steps.{FoldInput, foldedFront};
 use residue::Residue;
@@ -7,8 +8,8 @@ use residue::entry;
 
 // The front half of m becomes left + a right.
 pub fn fold(a: Residue, m: &mut [u32])
-    requires { ⌜ FoldInput a (now m) ⌝ }
-    ensures { λ _. ⌜ now (m .exit) ≡ foldedFront (elem a) (now (m .entry)) ⌝ }
+    requires { ⌜ FoldInput 𝔽₁ a (now m) ⌝ }
+    ensures { λ _. ⌜ now (m .exit) ≡ foldedFront 𝔽₁ (elem a) (now (m .entry)) ⌝ }
 {
     let half = m.len() / 2;
     let mut j = 0;

@@ -4,6 +4,7 @@ ghost use mathlib.Core.Path.{_≡_};
 ghost use mathlib.Core.List.{_++_};
 ghost use Prim.Native.Nat.{suc, _^_, _<_, _≤_};
 ghost use lib.ListN.{length, take, drop, getD, set};
+ghost use Rattle.algebra.specs.Words.{𝔽₁};
 ghost use Rattle.algebra.specs.Lists.{put};
 ghost use Rattle.basefold.specs.Layout.{roundAt, finalAt, blockAt};
 ghost use Rattle.parameters.specs.Lent.{codeword};
@@ -27,8 +28,8 @@ pub fn begin(message: &[u32], work: &mut [u32])
 
 // h_(i+1) into its place.
 pub fn give_round(depth: u32, i: u32, w: Residue, z: &[u32], opening: &mut [u32], work: &[u32])
-    requires { ⌜ GiveRoundInput depth i w (now z) (length (now opening)) (now work) ⌝ }
-    ensures { λ _. ⌜ now (opening .exit) ≡ put (roundAt depth (suc i)) (sentWords i w (now (z .entry)) (now (work .entry))) (now (opening .entry)) ⌝ }
+    requires { ⌜ GiveRoundInput 𝔽₁ depth i w (now z) (length (now opening)) (now work) ⌝ }
+    ensures { λ _. ⌜ now (opening .exit) ≡ put (roundAt depth (suc i)) (sentWords 𝔽₁ i w (now (z .entry)) (now (work .entry))) (now (opening .entry)) ⌝ }
 {
     let next = i + 1;
     let k = next as usize;
@@ -40,8 +41,8 @@ pub fn give_round(depth: u32, i: u32, w: Residue, z: &[u32], opening: &mut [u32]
 
 // The challenge r_i: what is left is folded by it, and eq of it and z_i comes to the weight.
 pub fn take_challenge(i: u32, w: Residue, z: &[u32], r: &[u32], work: &mut [u32]) -> Residue
-    requires { ⌜ TakeChallengeInput i w (now z) (now r) (now work) ⌝ }
-    ensures { λ v. ⌜ TakeChallengeResult i w (now (z .entry)) (now (r .entry)) (now (work .entry)) v (now (work .exit)) ⌝ }
+    requires { ⌜ TakeChallengeInput 𝔽₁ i w (now z) (now r) (now work) ⌝ }
+    ensures { λ v. ⌜ TakeChallengeResult 𝔽₁ i w (now (z .entry)) (now (r .entry)) (now (work .entry)) v (now (work .exit)) ⌝ }
 {
     let k = i as usize;
     let n = job::message_len(i + 1);
@@ -60,8 +61,8 @@ pub fn give_block(
     opening: &mut [u32],
     work: &[u32],
 )
-    requires { ⌜ GiveBlockInput depth i (now g) (now t) (now t2) (length (now opening)) (now work) ⌝ }
-    ensures { λ _. ⌜ now (opening .exit) ≡ put (blockAt (length (now (g .entry))) 0 depth i) (codeword i (now (g .entry)) (now (t .entry)) (now (t2 .entry)) (take (2 ^ i) (now (work .entry)))) (now (opening .entry)) ⌝ }
+    requires { ⌜ GiveBlockInput 𝔽₁ depth i (now g) (now t) (now t2) (length (now opening)) (now work) ⌝ }
+    ensures { λ _. ⌜ now (opening .exit) ≡ put (blockAt (length (now (g .entry))) 0 depth i) (codeword 𝔽₁ i (now (g .entry)) (now (t .entry)) (now (t2 .entry)) (take (2 ^ i) (now (work .entry)))) (now (opening .entry)) ⌝ }
 {
     let rate = g.len() as u32;
     let n = job::message_len(i);

@@ -13,7 +13,7 @@ use residue::Residue;
 // The value at x: w times eq of z and x, times the line through left at 0 and left + right at 1.
 fn value_at(w: Residue, z: Residue, left: Residue, right: Residue, x: Residue) -> Residue
     requires { ⌜ Low w × Low z × Low left × Low right × Low x ⌝ }
-    ensures { λ v. ⌜ v .0 ≡ word (elem w ⊠ factor (elem z) (elem x) ⊠ (elem left ⊞ elem x ⊠ elem right)) ⌝ }
+    ensures { λ v. ⌜ v .0 ≡ word (elem w ⊠ factor 𝔽₁ (elem z) (elem x) ⊠ (elem left ⊞ elem x ⊠ elem right)) ⌝ }
 {
     weigh::weigh(w, z, x).times(left.plus_product(x, right))
 }
@@ -25,8 +25,8 @@ pub struct Ends {
 
 // The values of both halves of m at the variables below the top one.
 fn halves(z: &[u32], m: &[u32]) -> Ends
-    requires { ⌜ HalvesInput (now z) (now m) ⌝ }
-    ensures { λ e. ⌜ HalfValues (elements 𝔽₁ (now (z .entry))) (elements 𝔽₁ (now (m .entry))) (e .left) (e .right) ⌝ }
+    requires { ⌜ HalvesInput 𝔽₁ (now z) (now m) ⌝ }
+    ensures { λ e. ⌜ HalfValues 𝔽₁ (elements 𝔽₁ (now (z .entry))) (elements 𝔽₁ (now (m .entry))) (e .left) (e .right) ⌝ }
 {
     let top = z.len() - 1;
     let half = m.len() / 2;
@@ -47,8 +47,8 @@ fn three(a: Residue, b: Residue, c: Residue, out: &mut [u32])
 
 // w times h of what is left, m, at its point z.
 pub fn send(w: Residue, z: &[u32], m: &[u32], out: &mut [u32])
-    requires { ⌜ SendInput w (now z) (now m) (length (now out)) ⌝ }
-    ensures { λ _. ⌜ now (out .exit) ≡ toWords 𝔽₁ (values (roundOf (elem w) (elements 𝔽₁ (now (m .entry))) (elements 𝔽₁ (now (z .entry))))) ⌝ }
+    requires { ⌜ SendInput 𝔽₁ w (now z) (now m) (length (now out)) ⌝ }
+    ensures { λ _. ⌜ now (out .exit) ≡ toWords 𝔽₁ (values 𝔽₁ (roundOf 𝔽₁ (elem w) (elements 𝔽₁ (now (m .entry))) (elements 𝔽₁ (now (z .entry))))) ⌝ }
 {
     let e = halves(z, m);
     let left = e.left;

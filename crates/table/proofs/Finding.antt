@@ -36,9 +36,9 @@ module _ (t : List ℤ) {w : List ℕ} {d : ℕ} (is : w ≡ map residueOf t) (d
     rw is (low-residues t r),
   )
 
-  pub table-found : {r : List ℕ} → r ≡ toWords 𝔽₁ (passes (across ToCoefficients) d (elements 𝔽₁ w))
+  pub table-found : {r : List ℕ} → r ≡ toWords 𝔽₁ (passes (across 𝔽₁ ToCoefficients) d (elements 𝔽₁ w))
       → r ≡ toWords 𝔽₁ (coefficients K (exponent (length t)) (elements 𝔽₁ (map residueOf t)))
-  table-found e = e ∙ ap (toWords 𝔽₁) (passes-coefficients d (elements 𝔽₁ w)) ∙ ap₂ (λ n v. toWords 𝔽₁ (coefficients K n (elements 𝔽₁ v))) deep is
+  table-found e = e ∙ ap (toWords 𝔽₁) (passes-coefficients 𝔽₁ d (elements 𝔽₁ w)) ∙ ap₂ (λ n v. toWords 𝔽₁ (coefficients K n (elements 𝔽₁ v))) deep is
 
 -- w is a copy of the message, d its depth
 module _ {m w : List ℕ} {d : ℕ} (is : w ≡ m) (deep : d ≡ exponent (length m)) (p : isPower (length m) ≡ true) where
@@ -55,10 +55,10 @@ pub record Entries (m v : List ℕ) : Type 0 where
   pub are : map clearanceOf v ≡ tableOf m
 
 pub entries : {m w : List ℕ} {d : ℕ} {v : List ℕ} → w ≡ m → d ≡ exponent (length m) → isPower (length m) ≡ true
-    → v ≡ toWords 𝔽₁ (passes (across ToTable) d (elements 𝔽₁ w)) → Entries m v
+    → v ≡ toWords 𝔽₁ (passes (across 𝔽₁ ToTable) d (elements 𝔽₁ w)) → Entries m v
 entries {m} {w} {d} {v} is deep p e =
     let long = size is deep p in
-    let all : v ≡ toWords 𝔽₁ (table K d (elements 𝔽₁ w)) = e ∙ ap (toWords 𝔽₁) (passes-table d (elements 𝔽₁ w) (length-elements 𝔽₁ w ∙ long)) in
+    let all : v ≡ toWords 𝔽₁ (table K d (elements 𝔽₁ w)) = e ∙ ap (toWords 𝔽₁) (passes-table 𝔽₁ d (elements 𝔽₁ w) (length-elements 𝔽₁ w ∙ long)) in
     record {
       many = ap length all ∙ length-words 𝔽₁ _ ∙ length-table K d (elements 𝔽₁ w) ∙ sym long ∙ ap length is;
       low = rw e (low-words 𝔽₁ _);

@@ -38,7 +38,7 @@ pub record ToCoefficients (t : List ℤ) (old new : List ℕ) (r : Answer) : Typ
 
 -- the outcome for a message, and for the lengths of the clearances' and the work buffer
 abbrev pub judgeMessage : List ℕ → ℕ → ℕ → Outcome (Unit {0})
-judgeMessage m n k = require (isPower (length m)) 1 ⨾ require (eqb n (length m) && eqb k (length m)) 3 ⨾ require (allBelow m) 4
+judgeMessage m n k = require (isPower (length m)) 1 ⨾ require (eqb n (length m) && eqb k (length m)) 3 ⨾ require (allBelow 𝔽₁ m) 4
 
 -- the table of a message, as clearances
 abbrev pub tableOf : List ℕ → List ℤ

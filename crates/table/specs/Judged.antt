@@ -7,6 +7,7 @@ use lib.Dec.{eqb}
 use lib.IntN.{ℤ}
 use lib.ListN.{length}
 use borrow.Author.Tests.{eq-eqb, eqb-true}
+use Rattle.algebra.specs.Words.{𝔽₁}
 use Rattle.algebra.specs.Tests.{all, and-both}
 use Rattle.job.specs.Outcome.{done}
 use Rattle.job.specs.OutcomeLaws.{pass, holds, require-done, held}
@@ -35,14 +36,14 @@ module _ (m : List ℕ) (n k : ℕ) where
     pub power : isPower (length m) ≡ true
     pub same : n ≡ length m
     pub room : k ≡ length m
-    pub below : allBelow m ≡ true
+    pub below : allBelow 𝔽₁ m ≡ true
 
   pub message-passed : judgeMessage m n k ≡ done tt → MessageLegal
   message-passed e =
       let a = require-done (isPower (length m)) 1 e in
       let b = require-done (eqb n (length m) && eqb k (length m)) 3 (a .1) in
       let l = and-both (eqb n (length m)) (eqb k (length m)) (b .0) in
-      record { power = a .0; same = eqb-true n (length m) (l .0); room = eqb-true k (length m) (l .1); below = held (allBelow m) 4 (b .1) }
+      record { power = a .0; same = eqb-true n (length m) (l .0); room = eqb-true k (length m) (l .1); below = held (allBelow 𝔽₁ m) 4 (b .1) }
 
-  pub message-done : isPower (length m) ≡ true → n ≡ length m → k ≡ length m → allBelow m ≡ true → done tt ≡ judgeMessage m n k
+  pub message-done : isPower (length m) ≡ true → n ≡ length m → k ≡ length m → allBelow 𝔽₁ m ≡ true → done tt ≡ judgeMessage m n k
   message-done p q s r = pass 1 p (pass 3 (ap₂ _&&_ (eq-eqb n (length m) q) (eq-eqb k (length m) s)) (holds 4 r))

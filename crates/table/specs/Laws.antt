@@ -101,7 +101,7 @@ there-and-back {t} {new} {old} {m} {work} other c d b o w =
     let legal = table-passed t (length old) passed in
     let f = made (judgeTable t (length old)) old m (MessageOf t m) passed (c .message) in
     let same : length m ≡ length t = f .size ∙ sym (exponent-is _ (length t) (legal .power)) in
-    let fine = message-done m (length other) (length work) (ap isPower same ∙ legal .power) (o ∙ sym same) (w ∙ sym same) (below-all m (f .low)) in
+    let fine = message-done m (length other) (length work) (ap isPower same ∙ legal .power) (o ∙ sym same) (w ∙ sym same) (below-all 𝔽₁ m (f .low)) in
     (b .answer ∙ sym fine, b .clearances ∙ ap (λ x. kept x other (tableOf m)) (sym fine) ∙ table-message t m (legal .power) (legal .range) f)
 
 -- a message that became a table comes back from it
@@ -116,5 +116,5 @@ back-and-there {old} {t} {m} {m′} {work} other b d c o =
     let fine = table-done t (length other) (ap isPower same ∙ legal .power) (o ∙ sym same) (ap (all inRange) is ∙ in-range _) in (
       c .answer ∙ sym fine,
       message-unique t m′ m (made (judgeTable t (length other)) other m′ (MessageOf t m′) (sym fine) (c .message))
-          (subst (λ x. MessageOf x m) (sym is) (message-table m (legal .power) (all-below m (legal .below)))),
+          (subst (λ x. MessageOf x m) (sym is) (message-table m (legal .power) (all-below 𝔽₁ m (legal .below)))),
     )

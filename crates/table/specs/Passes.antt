@@ -5,9 +5,11 @@ use Prim.Native.Nat.{ℕ, zero, suc, _^_}
 use native.Mathlib.Nat.{pow-suc}
 use native.Mathlib.Omega.{arith}
 use lib.ListN.{length, take, drop, length-take, length-drop, take-append-drop}
+use Rattle.algebra.specs.Ring.{Ring}
+use Rattle.algebra.specs.Field.{Field}
+use Rattle.algebra.specs.Words.{PrimeField}
 use Rattle.algebra.specs.Lists.{zip}
 use Rattle.multilinear.specs.Table.{table, coefficients, table-back, coefficients-table}
-use Rattle.residue.specs.Residues.{K, Element, _⊞_, _⊟_}
 use Rattle.table.specs.declared.transform.Way.{Way}
 use Rattle.table.specs.declared.transform.Way.the-variants.{ToCoefficients, ToTable}
 
@@ -29,26 +31,33 @@ module _ {A : Type 0} where
       let r = passes f d (drop (2 ^ d) t) in
       l ++ zip f l r
 
--- an element y of a right half, by the element x of the left one
-abbrev pub across : Way → Element → Element → Element
-across ToCoefficients x y = y ⊟ x
-across ToTable x y = x ⊞ y
+module _ (𝓕 : PrimeField) where
+  infixl 65 _⊞_
+  infixl 65 _⊟_
+  open PrimeField 𝓕 using (field as F)
+  open Field F using (ring as K)
+  open Ring K using (R as Element, _+_ as _⊞_, _-_ as _⊟_)
 
--- by passes a table becomes its coefficients, and a message its table
-pub passes-coefficients : (d : ℕ) (t : List Element) → passes (across ToCoefficients) d t ≡ coefficients K d t
-unfolding passes coefficients
-passes-coefficients zero t = refl
-passes-coefficients (suc d) t =
-    ap₂ (λ (l r : List Element). l ++ zip (across ToCoefficients) l r) (passes-coefficients d (take (2 ^ d) t)) (passes-coefficients d (drop (2 ^ d) t))
+  -- an element y of a right half, by the element x of the left one
+  abbrev pub across : Way → Element → Element → Element
+  across ToCoefficients x y = y ⊟ x
+  across ToTable x y = x ⊞ y
 
-pub passes-table : (d : ℕ) (m : List Element) → length m ≡ 2 ^ d → passes (across ToTable) d m ≡ table K d m
-unfolding passes coefficients
-passes-table zero m e = sym (coefficients-table K 0 m e)
-passes-table (suc d) m e =
-    let l = take (2 ^ d) m in
-    let r = drop (2 ^ d) m in
-    let p : length l ≡ 2 ^ d = simp length-take (omega (arith, pow-suc 2 d)) in
-    let q : length r ≡ 2 ^ d = simp length-drop (omega (arith, pow-suc 2 d)) in
-    ap₂ (λ (a b : List Element). a ++ zip _⊞_ a b) (passes-table d l p) (passes-table d r q)
-    ∙ sym (table-back K d l r p q)
-    ∙ ap (table K (suc d)) (take-append-drop (2 ^ d) m)
+  -- by passes a table becomes its coefficients, and a message its table
+  pub passes-coefficients : (d : ℕ) (t : List Element) → passes (across ToCoefficients) d t ≡ coefficients K d t
+  unfolding passes coefficients
+  passes-coefficients zero t = refl
+  passes-coefficients (suc d) t =
+      ap₂ (λ (l r : List Element). l ++ zip (across ToCoefficients) l r) (passes-coefficients d (take (2 ^ d) t)) (passes-coefficients d (drop (2 ^ d) t))
+
+  pub passes-table : (d : ℕ) (m : List Element) → length m ≡ 2 ^ d → passes (across ToTable) d m ≡ table K d m
+  unfolding passes coefficients
+  passes-table zero m e = sym (coefficients-table K 0 m e)
+  passes-table (suc d) m e =
+      let l = take (2 ^ d) m in
+      let r = drop (2 ^ d) m in
+      let p : length l ≡ 2 ^ d = simp length-take (omega (arith, pow-suc 2 d)) in
+      let q : length r ≡ 2 ^ d = simp length-drop (omega (arith, pow-suc 2 d)) in
+      ap₂ (λ (a b : List Element). a ++ zip _⊞_ a b) (passes-table d l p) (passes-table d r q)
+      ∙ sym (table-back K d l r p q)
+      ∙ ap (table K (suc d)) (take-append-drop (2 ^ d) m)

@@ -16,7 +16,7 @@ pub enum Way {
 // What the word y of a right half becomes, x being that of the left half.
 fn step(way: Way, x: u32, y: u32) -> u32
     requires { ⌜ (x < P) × (y < P) ⌝ }
-    ensures { λ r. ⌜ r ≡ word (across way (el x) (el y)) ⌝ }
+    ensures { λ r. ⌜ r ≡ word (across 𝔽₁ way (el x) (el y)) ⌝ }
 {
     match way {
         Way::ToCoefficients => entry::minus(y, x),
@@ -27,7 +27,7 @@ fn step(way: Way, x: u32, y: u32) -> u32
 // One block: its right half changes by its left half.
 fn cross(way: Way, half: usize, s: &mut [u32])
     requires { ⌜ (length (now s) ≡ half + half) × Low P (now s) ⌝ }
-    ensures { λ _. ⌜ now (s .exit) ≡ toWords 𝔽₁ (crossed (across way) half (elements 𝔽₁ (now (s .entry)))) ⌝ }
+    ensures { λ _. ⌜ now (s .exit) ≡ toWords 𝔽₁ (crossed (across 𝔽₁ way) half (elements 𝔽₁ (now (s .entry)))) ⌝ }
 {
     let mut j = 0;
     while j < half {
@@ -41,7 +41,7 @@ fn cross(way: Way, half: usize, s: &mut [u32])
 // One variable: every block.
 fn pass(way: Way, half: usize, count: usize, s: &mut [u32])
     requires { ⌜ (length (now s) ≡ count * (half + half)) × Low P (now s) ⌝ }
-    ensures { λ _. ⌜ now (s .exit) ≡ toWords 𝔽₁ (blocks (crossed (across way) half) (half + half) count (elements 𝔽₁ (now (s .entry)))) ⌝ }
+    ensures { λ _. ⌜ now (s .exit) ≡ toWords 𝔽₁ (blocks (crossed (across 𝔽₁ way) half) (half + half) count (elements 𝔽₁ (now (s .entry)))) ⌝ }
 {
     let mut i = 0;
     let mut at = 0;
@@ -56,7 +56,7 @@ fn pass(way: Way, half: usize, count: usize, s: &mut [u32])
 // The same, with the shortest halves as constants: the compiler unrolls their blocks.
 fn sweep(way: Way, half: usize, count: usize, s: &mut [u32])
     requires { ⌜ (length (now s) ≡ count * (half + half)) × Low P (now s) ⌝ }
-    ensures { λ _. ⌜ now (s .exit) ≡ toWords 𝔽₁ (blocks (crossed (across way) half) (half + half) count (elements 𝔽₁ (now (s .entry)))) ⌝ }
+    ensures { λ _. ⌜ now (s .exit) ≡ toWords 𝔽₁ (blocks (crossed (across 𝔽₁ way) half) (half + half) count (elements 𝔽₁ (now (s .entry)))) ⌝ }
 {
     match half {
         1 => pass(way, 1, count, s),
@@ -69,7 +69,7 @@ fn sweep(way: Way, half: usize, count: usize, s: &mut [u32])
 // All variables, from the lowest.
 pub fn transform(way: Way, depth: u32, s: &mut [u32])
     requires { ⌜ (length (now s) ≡ 2 ^ depth) × Low P (now s) ⌝ }
-    ensures { λ _. ⌜ now (s .exit) ≡ toWords 𝔽₁ (passes (across way) depth (elements 𝔽₁ (now (s .entry)))) ⌝ }
+    ensures { λ _. ⌜ now (s .exit) ≡ toWords 𝔽₁ (passes (across 𝔽₁ way) depth (elements 𝔽₁ (now (s .entry)))) ⌝ }
 {
     let mut level = 0;
     let mut half = 1;

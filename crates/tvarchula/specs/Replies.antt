@@ -3,6 +3,7 @@ use mathlib.Core.Path.{_≡_}
 use mathlib.Core.List.{List}
 use Prim.Native.Nat.{ℕ}
 use lib.IntN.{ℤ}
+use Rattle.algebra.specs.Words.{PrimeField}
 use Rattle.job.specs.Outcome.{Outcome, refused, done, outcome}
 use Rattle.job.specs.declared.Answer.{Answer}
 use Rattle.code.specs.Encoding.{Encoded}
@@ -50,33 +51,6 @@ pub record ToTableCall (m : List ℕ) (old new : List ℤ) (work left : List ℕ
   pub answer : r ≡ reply (outcome job)
   pub result : ToTable m old new work left job
 
-pub record EncodeCall (d c : ℕ) (g t t' m old : List ℕ) (r : Reply) (out : List ℕ) : Type 0 where
-  pub job : Answer
-  pub answer : r ≡ reply (outcome job)
-  pub result : Encoded d c g t t' m old job out
-
-pub record DecodeCall (d c : ℕ) (g t t' w old space : List ℕ) (r : Reply) (out work : List ℕ) : Type 0 where
-  pub job : Answer
-  pub answer : r ≡ reply (outcome job)
-  pub result : Decoded d c g t t' w old space job out work
-
-pub record FoldCall (level c : ℕ) (t t' w : List ℕ) (a : ℕ) (old : List ℕ) (r : Reply) (out : List ℕ) : Type 0 where
-  pub job : Answer
-  pub answer : r ≡ reply (outcome job)
-  pub result : Folded level c t t' w a old job out
-
-pub record EvaluateCall (d : ℕ) (m z : List ℕ) (old : ℕ) (r : Reply) (value : ℕ) : Type 0 where
-  pub job : Evaluation
-  pub answer : r ≡ reply (evaluated job)
-  pub result : evaluated job ≡ evaluation d m z
-  pub single : value ≡ given (evaluated job) old
-
-pub record WriteCall (d c : ℕ) (g t t' m z r old space : List ℕ) (value : ℕ) (a : Reply) (out work : List ℕ) (value' : ℕ) : Type 0 where
-  pub job : Written
-  pub answer : a ≡ reply (wrote job)
-  pub result : Wrote d c g t t' m z r old space job out work
-  pub single : value' ≡ given (wrote job) value
-
 -- a verdict's number and places
 abbrev pub triple : Numbers → Reply
 triple n = record { number = n .0; first = n .1; second = n .2 }
@@ -85,3 +59,31 @@ triple n = record { number = n .0; first = n .1; second = n .2 }
 pub data Single (answer : Outcome ℕ) (n old value : ℕ) : Type 0 where
   written : n ≡ 0 → answer ≡ done value → Single answer n old value
   left : (n ≡ 0 → ⊥) → answer ≡ refused n → value ≡ old → Single answer n old value
+
+module _ (𝓕 : PrimeField) where
+  pub record EncodeCall (d c : ℕ) (g t t' m old : List ℕ) (r : Reply) (out : List ℕ) : Type 0 where
+    pub job : Answer
+    pub answer : r ≡ reply (outcome job)
+    pub result : Encoded 𝓕 d c g t t' m old job out
+
+  pub record DecodeCall (d c : ℕ) (g t t' w old space : List ℕ) (r : Reply) (out work : List ℕ) : Type 0 where
+    pub job : Answer
+    pub answer : r ≡ reply (outcome job)
+    pub result : Decoded 𝓕 d c g t t' w old space job out work
+
+  pub record FoldCall (level c : ℕ) (t t' w : List ℕ) (a : ℕ) (old : List ℕ) (r : Reply) (out : List ℕ) : Type 0 where
+    pub job : Answer
+    pub answer : r ≡ reply (outcome job)
+    pub result : Folded 𝓕 level c t t' w a old job out
+
+  pub record EvaluateCall (d : ℕ) (m z : List ℕ) (old : ℕ) (r : Reply) (value : ℕ) : Type 0 where
+    pub job : Evaluation
+    pub answer : r ≡ reply (evaluated job)
+    pub result : evaluated job ≡ evaluation 𝓕 d m z
+    pub single : value ≡ given (evaluated job) old
+
+  pub record WriteCall (d c : ℕ) (g t t' m z r old space : List ℕ) (value : ℕ) (a : Reply) (out work : List ℕ) (value' : ℕ) : Type 0 where
+    pub job : Written
+    pub answer : a ≡ reply (wrote job)
+    pub result : Wrote 𝓕 d c g t t' m z r old space job out work
+    pub single : value' ≡ given (wrote job) value

@@ -1,5 +1,6 @@
 // Clearances, tables and evaluation.
 ghost use mathlib.Core.Path.{_≡_};
+ghost use Rattle.algebra.specs.Words.{𝔽₁};
 ghost use Rattle.clearance.specs.Reading.{reading};
 ghost use Rattle.tvarchula.specs.Replies.{readingReply, ToCoefficientsCall, ToTableCall, EvaluateCall};
 use crate::answer;
@@ -64,7 +65,7 @@ pub extern "C" fn tv_coefficients_to_table(
 
 #[no_mangle]
 pub extern "C" fn tv_evaluate(depth: u32, message: &[u32], z: &[u32], value: &mut u32) -> Reply
-    ensures { λ r. ⌜ EvaluateCall depth (now (message .entry)) (now (z .entry)) (now (value .entry)) r (now (value .exit)) ⌝ }
+    ensures { λ r. ⌜ EvaluateCall 𝔽₁ depth (now (message .entry)) (now (z .entry)) (now (value .entry)) r (now (value .exit)) ⌝ }
 {
     let e = polynomial::evaluate(depth, message, z);
     match e {

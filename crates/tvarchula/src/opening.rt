@@ -1,5 +1,6 @@
 // Writing and verifying an opening.
 ghost use mathlib.Core.Path.{_≡_};
+ghost use Rattle.algebra.specs.Words.{𝔽₁};
 ghost use Rattle.verdict.specs.Verdicts.{numbers, numbersOf};
 ghost use Rattle.verify.specs.Verifying.{verification};
 ghost use Rattle.tvarchula.specs.Replies.{triple, WriteCall};
@@ -23,7 +24,7 @@ pub extern "C" fn tv_write_opening(
     work: &mut [u32],
     value: &mut u32,
 ) -> Reply
-    ensures { λ a. ⌜ WriteCall depth rate (now (g .entry)) (now (t .entry)) (now (t2 .entry)) (now (message .entry)) (now (z .entry)) (now (r .entry)) (now (opening .entry)) (now (work .entry)) (now (value .entry)) a (now (opening .exit)) (now (work .exit)) (now (value .exit)) ⌝ }
+    ensures { λ a. ⌜ WriteCall 𝔽₁ depth rate (now (g .entry)) (now (t .entry)) (now (t2 .entry)) (now (message .entry)) (now (z .entry)) (now (r .entry)) (now (opening .entry)) (now (work .entry)) (now (value .entry)) a (now (opening .exit)) (now (work .exit)) (now (value .exit)) ⌝ }
 {
     let w = open::write_opening(depth, rate, g, t, t2, message, z, r, opening, work);
     match w {
@@ -104,7 +105,7 @@ pub extern "C" fn tv_verify_opening<'a>(
     queries: &[u32],
     opening: &'a [u32],
 ) -> Reply
-    ensures { λ a. ⌜ a ≡ triple (numbersOf (verification depth rate (now (g .entry)) (now (t .entry)) (now (t2 .entry)) (now (block .entry)) (now (z .entry)) y (now (r .entry)) (now (queries .entry)) (now (opening .entry)))) ⌝ }
+    ensures { λ a. ⌜ a ≡ triple (numbersOf (verification 𝔽₁ depth rate (now (g .entry)) (now (t .entry)) (now (t2 .entry)) (now (block .entry)) (now (z .entry)) y (now (r .entry)) (now (queries .entry)) (now (opening .entry)))) ⌝ }
 {
     told(verify::verify_opening(depth, rate, g, t, t2, block, z, y, r, queries, opening))
 }

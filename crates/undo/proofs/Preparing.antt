@@ -8,6 +8,7 @@ use lib.ListN.{length, take, drop, length-append, length-take, length-drop}
 use lib.Pow.{pow-pos}
 use lib.Seq.{take-at}
 use borrow.Rule.Slice.PartMut.{putMid}
+use Rattle.algebra.specs.Words.{PrimeField}
 use Rattle.foldable.specs.Columns.{pick}
 use Rattle.job.specs.LimitLaws.{power-most}
 use Rattle.job.specs.Limits.{diagonalsSize, maxMessage}
@@ -16,64 +17,65 @@ use Rattle.inversion.specs.InversionLaws.{length-rows}
 use Rattle.inversion.specs.Strides.{stride-within}
 use Rattle.undo.specs.Steps.{DecodeInput}
 
-module _ (d : ℕ) (g t t' b work : List ℕ) (𝓓 : DecodeInput d g t t' b (length work)) (n : ℕ) (en : n ≡ 2 ^ d) where
-  pub some : 1 ≤ n
-  some = omega (arith, pow-pos d)
+module _ (𝓕 : PrimeField) where
+  module _ (d : ℕ) (g t t' b work : List ℕ) (𝓓 : DecodeInput 𝓕 d g t t' b (length work)) (n : ℕ) (en : n ≡ 2 ^ d) where
+    pub some : 1 ≤ n
+    some = omega (arith, pow-pos d)
 
-  pub few : n ≤ maxMessage
-  few = omega (arith, power-most d (𝓓 .depth))
+    pub few : n ≤ maxMessage
+    few = omega (arith, power-most d (𝓓 .depth))
 
-  -- a column and its inverses have room in the work buffer
-  pub room : n + n ≤ length work
-  room =
-      let two : 2 * 2 ^ d ≤ length g * 2 ^ d = mul-le-mul-right (2 ^ d) (𝓓 .narrow) in
-      omega (arith, 𝓓 .work)
+    -- a column and its inverses have room in the work buffer
+    pub room : n + n ≤ length work
+    room =
+        let two : 2 * 2 ^ d ≤ length g * 2 ^ d = mul-le-mul-right (2 ^ d) (𝓓 .narrow) in
+        omega (arith, 𝓓 .work)
 
-  pub gathering : (0 < length g) × (length b ≡ length g * length (take n work))
-  gathering =
-      let l : length (take n work) ≡ n = length-take n work ∙ omega (arith, room) in
-      (omega (arith, 𝓓 .narrow), 𝓓 .size ∙ ap (λ k. length g * k) (sym (l ∙ en)))
+    pub gathering : (0 < length g) × (length b ≡ length g * length (take n work))
+    gathering =
+        let l : length (take n work) ≡ n = length-take n work ∙ omega (arith, room) in
+        (omega (arith, 𝓓 .narrow), 𝓓 .size ∙ ap (λ k. length g * k) (sym (l ∙ en)))
 
-  diagonals : Diagonals (length g) (n - 1) t t'
-  diagonals =
-      record {
-        some = omega (arith, 𝓓 .narrow);
-        first = 𝓓 .first ∙ sized;
-        second = 𝓓 .second ∙ sized;
-        low = 𝓓 .coding .low;
-        low' = 𝓓 .coding .low';
-        differ = λ k h. 𝓓 .apart (k * length g) (omega (arith, stride-within k (length g) (n - 1) h, 𝓓 .first ∙ sized, 𝓓 .narrow));
-      }
-    where
-      sized : diagonalsSize (length g) d ≡ (n - 1) * length g
-      sized = ap (λ k. length g * (k - 1)) (sym en) ∙ mul-comm (length g) (n - 1)
+    diagonals : Diagonals 𝓕 (length g) (n - 1) t t'
+    diagonals =
+        record {
+          some = omega (arith, 𝓓 .narrow);
+          first = 𝓓 .first ∙ sized;
+          second = 𝓓 .second ∙ sized;
+          low = 𝓓 .coding .low;
+          low' = 𝓓 .coding .low';
+          differ = λ k h. 𝓓 .apart (k * length g) (omega (arith, stride-within k (length g) (n - 1) h, 𝓓 .first ∙ sized, 𝓓 .narrow));
+        }
+      where
+        sized : diagonalsSize (length g) d ≡ (n - 1) * length g
+        sized = ap (λ k. length g * (k - 1)) (sym en) ∙ mul-comm (length g) (n - 1)
 
-  module _ (l : List ℕ) (ll : length l ≡ length (take n work)) where
-    length-l : length l ≡ n
-    length-l = ll ∙ length-take n work ∙ omega (arith, room)
+    module _ (l : List ℕ) (ll : length l ≡ length (take n work)) where
+      length-l : length l ≡ n
+      length-l = ll ∙ length-take n work ∙ omega (arith, room)
 
-    whole : length (l ++ drop n work) ≡ length work
-    whole = length-append l (drop n work) ∙ omega (arith, length-l, length-drop n work, room)
+      whole : length (l ++ drop n work) ≡ length work
+      whole = length-append l (drop n work) ∙ omega (arith, length-l, length-drop n work, room)
 
-    pub end-within : n + (n - 1) ≤ length (l ++ drop n work)
-    end-within = omega (arith, whole, room)
+      pub end-within : n + (n - 1) ≤ length (l ++ drop n work)
+      end-within = omega (arith, whole, room)
 
-    abbrev part : List ℕ
-    part = take (n + (n - 1) - n) (drop n (l ++ drop n work))
+      abbrev part : List ℕ
+      part = take (n + (n - 1) - n) (drop n (l ++ drop n work))
 
-    pub length-part : length part ≡ n - 1
-    length-part = length-take (n + (n - 1) - n) (drop n (l ++ drop n work)) ∙ omega (arith, length-drop n (l ++ drop n work), whole, room)
+      pub length-part : length part ≡ n - 1
+      length-part = length-take (n + (n - 1) - n) (drop n (l ++ drop n work)) ∙ omega (arith, length-drop n (l ++ drop n work), whole, room)
 
-    pub inverting : Diagonals (length g) (length part) t t'
-    inverting = rw length-part diagonals
+      pub inverting : Diagonals 𝓕 (length g) (length part) t t'
+      inverting = rw length-part diagonals
 
-    -- the column, and behind it the inverses
-    pub prepared : (r : List ℕ) → l ≡ pick (length g) 1 (length (take n work)) b → r ≡ gapInverses (length g) (length part) t t'
-        → take (2 ^ d + (2 ^ d - 1)) (putMid n (n + (n - 1) - n) (l ++ drop n work) r) ≡ pick (length g) 1 (2 ^ d) b ++ gapInverses (length g) (2 ^ d - 1) t t'
-    prepared r p q =
-        let lr : length r ≡ n - 1 = ap length q ∙ length-rows (length part) _ ∙ length-part in
-        let e : 2 ^ d + (2 ^ d - 1) ≡ n + (n - 1) = omega arith in
-        let rest = drop (n + (n - 1) - n) (drop n (l ++ drop n work)) in
-        ap₂ take e (ap (λ v. v ++ (r ++ rest)) (take-at l (drop n work) n length-l) ∙ sym (append-assoc l r rest))
-        ∙ take-at (l ++ r) rest (n + (n - 1)) (length-append l r ∙ omega (arith, length-l))
-        ∙ ap₂ _++_ (p ∙ ap (λ k. pick (length g) 1 k b) (length-take n work ∙ omega (arith, room) ∙ en)) (q ∙ ap (λ k. gapInverses (length g) k t t') (length-part ∙ ap (λ k. k - 1) en))
+      -- the column, and behind it the inverses
+      pub prepared : (r : List ℕ) → l ≡ pick (length g) 1 (length (take n work)) b → r ≡ gapInverses 𝓕 (length g) (length part) t t'
+          → take (2 ^ d + (2 ^ d - 1)) (putMid n (n + (n - 1) - n) (l ++ drop n work) r) ≡ pick (length g) 1 (2 ^ d) b ++ gapInverses 𝓕 (length g) (2 ^ d - 1) t t'
+      prepared r p q =
+          let lr : length r ≡ n - 1 = ap length q ∙ length-rows 𝓕 (length part) _ ∙ length-part in
+          let e : 2 ^ d + (2 ^ d - 1) ≡ n + (n - 1) = omega arith in
+          let rest = drop (n + (n - 1) - n) (drop n (l ++ drop n work)) in
+          ap₂ take e (ap (λ v. v ++ (r ++ rest)) (take-at l (drop n work) n length-l) ∙ sym (append-assoc l r rest))
+          ∙ take-at (l ++ r) rest (n + (n - 1)) (length-append l r ∙ omega (arith, length-l))
+          ∙ ap₂ _++_ (p ∙ ap (λ k. pick (length g) 1 k b) (length-take n work ∙ omega (arith, room) ∙ en)) (q ∙ ap (λ k. gapInverses 𝓕 (length g) k t t') (length-part ∙ ap (λ k. k - 1) en))

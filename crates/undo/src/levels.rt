@@ -1,6 +1,7 @@
 // The levels of one column undone, in place. The inverses of the differences stand behind it in the same slice.
 ghost use mathlib.Core.Path.{_≡_};
 ghost use Prim.Native.Nat.{_<_, _≤_};
+ghost use Rattle.algebra.specs.Words.{𝔽₁};
 ghost use Rattle.job.specs.Limits.{maxDepth, maxRate};
 ghost use Rattle.undo.specs.Steps.{LevelLent, uncrossed, ColumnHalfIs, ColumnLent, ColumnUndone};
 use residue::Residue;
@@ -8,8 +9,8 @@ use residue::entry;
 
 // At each place the line through the words u and v of the two halves: its value at 0 instead of u, its slope instead of v.
 fn uncross(n: usize, a: usize, c: usize, t: &[u32], w: &mut [u32])
-    requires { ⌜ LevelLent n a c (now t) (now w) ⌝ }
-    ensures { λ _. ⌜ now (w .exit) ≡ uncrossed n a c (now (t .entry)) (now (w .entry)) ⌝ }
+    requires { ⌜ LevelLent 𝔽₁ n a c (now t) (now w) ⌝ }
+    ensures { λ _. ⌜ now (w .exit) ≡ uncrossed 𝔽₁ n a c (now (t .entry)) (now (w .entry)) ⌝ }
 {
     let mut i = 0;
     let mut p = 0;
@@ -50,8 +51,8 @@ fn column_half(depth: u32, c: usize) -> ColumnHalf
 
 // x is the inverse of the base row's first word; the inverses of the differences begin at a.
 pub fn undo(depth: u32, a: usize, x: Residue, c: usize, t: &[u32], w: &mut [u32])
-    requires { ⌜ ColumnLent depth a x c (now t) (now w) ⌝ }
-    ensures { λ _. ⌜ ColumnUndone depth a x c (now (t .entry)) (now (w .entry)) (now (w .exit)) ⌝ }
+    requires { ⌜ ColumnLent 𝔽₁ depth a x c (now t) (now w) ⌝ }
+    ensures { λ _. ⌜ ColumnUndone 𝔽₁ depth a x c (now (t .entry)) (now (w .entry)) (now (w .exit)) ⌝ }
 {
     if depth == 0 {
         w[0] = x.times(Residue::new(w[0])).word();

@@ -3,6 +3,7 @@ ghost use mathlib.Core.Path.{_≡_};
 ghost use mathlib.Core.List.{_++_};
 ghost use Prim.Native.Nat.{_+_, _-_, _^_};
 ghost use lib.ListN.{length, take};
+ghost use Rattle.algebra.specs.Words.{𝔽₁};
 ghost use Rattle.foldable.specs.Columns.{pick};
 ghost use Rattle.inversion.specs.Inversion.{gapInverses};
 ghost use Rattle.undo.specs.Steps.{DecodeInput, decoded};
@@ -12,8 +13,8 @@ use residue::Residue;
 
 // The first column of the block, and behind it the inverses of its differences.
 fn prepare(depth: u32, g: &[u32], t: &[u32], t2: &[u32], block: &[u32], work: &mut [u32])
-    requires { ⌜ DecodeInput depth (now g) (now t) (now t2) (now block) (length (now work)) ⌝ }
-    ensures { λ _. ⌜ take (2 ^ depth + (2 ^ depth - 1)) (now (work .exit)) ≡ pick (length (now (g .entry))) 1 (2 ^ depth) (now (block .entry)) ++ gapInverses (length (now (g .entry))) (2 ^ depth - 1) (now (t .entry)) (now (t2 .entry)) ⌝ }
+    requires { ⌜ DecodeInput 𝔽₁ depth (now g) (now t) (now t2) (now block) (length (now work)) ⌝ }
+    ensures { λ _. ⌜ take (2 ^ depth + (2 ^ depth - 1)) (now (work .exit)) ≡ pick (length (now (g .entry))) 1 (2 ^ depth) (now (block .entry)) ++ gapInverses 𝔽₁ (length (now (g .entry))) (2 ^ depth - 1) (now (t .entry)) (now (t2 .entry)) ⌝ }
 {
     let c = g.len();
     let n = job::message_len(depth);
@@ -24,8 +25,8 @@ fn prepare(depth: u32, g: &[u32], t: &[u32], t2: &[u32], block: &[u32], work: &m
 
 // The message, in front of work.
 pub fn message_of(depth: u32, g: &[u32], t: &[u32], t2: &[u32], block: &[u32], work: &mut [u32])
-    requires { ⌜ DecodeInput depth (now g) (now t) (now t2) (now block) (length (now work)) ⌝ }
-    ensures { λ _. ⌜ take (2 ^ depth) (now (work .exit)) ≡ decoded depth (now (g .entry)) (now (t .entry)) (now (t2 .entry)) (now (block .entry)) ⌝ }
+    requires { ⌜ DecodeInput 𝔽₁ depth (now g) (now t) (now t2) (now block) (length (now work)) ⌝ }
+    ensures { λ _. ⌜ take (2 ^ depth) (now (work .exit)) ≡ decoded 𝔽₁ depth (now (g .entry)) (now (t .entry)) (now (t2 .entry)) (now (block .entry)) ⌝ }
 {
     prepare(depth, g, t, t2, block, work);
     let n = job::message_len(depth);

@@ -6,13 +6,12 @@ use Prim.Native.Nat.{ℕ, zero, suc}
 use lib.Dec.{eqb, leb, ltb}
 use lib.ListN.{length}
 use Rattle.algebra.specs.Tests.{all}
-use Rattle.algebra.specs.Words.{𝔽₁}
+use Rattle.algebra.specs.Words.{Words, PrimeField}
 use Rattle.algebra.specs.WordLists.{elements}
 use Rattle.basefold.specs.Layout.{openingSize}
 use Rattle.basefold.specs.Checks.{Check, firstFailure, checks}
 use Rattle.job.specs.Outcome.{Outcome, done, require, _⨾_}
 use Rattle.job.specs.Limits.{blockSize}
-use Rattle.residue.specs.Residues.{P, F, el}
 use Rattle.residue.specs.Scans.{allBelow}
 use Rattle.parameters.specs.Lent.{lent}
 use Rattle.parameters.specs.Parameters.{rowLengths, rowWords, judgeRow}
@@ -25,26 +24,30 @@ unfoldable pub openedLengths : ℕ → ℕ → ℕ → ℕ → ℕ → ℕ → �
 openedLengths d c g t t' w z r o =
     rowLengths d c g t t' && (eqb w (blockSize c d) && (eqb z d && (eqb r d && eqb o (openingSize c 0 d))))
 
--- of the words of block, z, y, r and opening; and of all
-abbrev pub claimWords : (w z : List ℕ) (y : ℕ) (r o : List ℕ) → Bool
-claimWords w z y r o = allBelow w && (allBelow z && (ltb y P && (allBelow r && allBelow o)))
-
-unfoldable pub openedWords : (g t t' w z : List ℕ) (y : ℕ) (r o : List ℕ) → Bool
-openedWords g t t' w z y r o = rowWords g t t' && claimWords w z y r o
-
 -- at depth 0 no query; above, from 1 to the most, each a place of the block below the top one
 unfoldable pub queriesOk : ℕ → ℕ → List ℕ → Bool
 queriesOk zero c us = eqb (length us) 0
 queriesOk (suc i) c us = leb 1 (length us) && (leb (length us) maxQueries && all (λ u. ltb u (blockSize c i)) us)
 
--- the refusals, in their order
-unfoldable pub judgeVerifying : (d c : ℕ) (g t t' w z : List ℕ) (y : ℕ) (r us o : List ℕ) → Outcome (Unit {0})
-judgeVerifying d c g t t' w z y r us o =
-    judgeRow d c g t t' (openedLengths d c (length g) (length t) (length t') (length w) (length z) (length r) (length o)) (openedWords g t t' w z y r o)
-    ⨾ require (queriesOk d c us) 7
+module _ (𝓕 : PrimeField) where
+  open PrimeField 𝓕 using (modulus as P, field as F, words as W)
+  open Words W using (el)
 
--- a refusal, or the first check that fails, or none
-unfoldable pub verification : (d c : ℕ) (g t t' w z : List ℕ) (y : ℕ) (r us o : List ℕ) → Outcome (Option Check)
-verification d c g t t' w z y r us o =
-    judgeVerifying d c g t t' w z y r us o
-    ⨾ done (firstFailure (checks F 0 (lent g t t') (elements 𝔽₁ w) (elements 𝔽₁ z) (el y) (elements 𝔽₁ r) us (elements 𝔽₁ o)))
+  -- of the words of block, z, y, r and opening; and of all
+  abbrev pub claimWords : (w z : List ℕ) (y : ℕ) (r o : List ℕ) → Bool
+  claimWords w z y r o = allBelow 𝓕 w && (allBelow 𝓕 z && (ltb y P && (allBelow 𝓕 r && allBelow 𝓕 o)))
+
+  unfoldable pub openedWords : (g t t' w z : List ℕ) (y : ℕ) (r o : List ℕ) → Bool
+  openedWords g t t' w z y r o = rowWords 𝓕 g t t' && claimWords w z y r o
+
+  -- the refusals, in their order
+  unfoldable pub judgeVerifying : (d c : ℕ) (g t t' w z : List ℕ) (y : ℕ) (r us o : List ℕ) → Outcome (Unit {0})
+  judgeVerifying d c g t t' w z y r us o =
+      judgeRow d c g t t' (openedLengths d c (length g) (length t) (length t') (length w) (length z) (length r) (length o)) (openedWords g t t' w z y r o)
+      ⨾ require (queriesOk d c us) 7
+
+  -- a refusal, or the first check that fails, or none
+  unfoldable pub verification : (d c : ℕ) (g t t' w z : List ℕ) (y : ℕ) (r us o : List ℕ) → Outcome (Option Check)
+  verification d c g t t' w z y r us o =
+      judgeVerifying d c g t t' w z y r us o
+      ⨾ done (firstFailure (checks F 0 (lent 𝓕 g t t') (elements 𝓕 w) (elements 𝓕 z) (el y) (elements 𝓕 r) us (elements 𝓕 o)))

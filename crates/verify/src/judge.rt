@@ -1,6 +1,7 @@
 // What is judged before any check, in the order of the refusals.
 ghost use mathlib.Core.Path.{_≡_};
 ghost use mathlib.Core.Bool.{_&&_};
+ghost use Rattle.algebra.specs.Words.{𝔽₁};
 ghost use Rattle.job.specs.Outcome.{outcome};
 ghost use Rattle.parameters.specs.Parameters.{inLimits};
 ghost use Rattle.verify.specs.Verifying.{openedLengths, claimWords, judgeVerifying};
@@ -41,7 +42,7 @@ fn lengths_ok(
 
 // Whether all words are below the modulus, where those of row and diagonals are.
 fn words_ok(row: bool, block: &[u32], z: &[u32], y: u32, r: &[u32], opening: &[u32]) -> bool
-    ensures { λ b. ⌜ b ≡ (row && claimWords (now (block .entry)) (now (z .entry)) y (now (r .entry)) (now (opening .entry))) ⌝ }
+    ensures { λ b. ⌜ b ≡ (row && claimWords 𝔽₁ (now (block .entry)) (now (z .entry)) y (now (r .entry)) (now (opening .entry))) ⌝ }
 {
     if !row {
         return false;
@@ -74,7 +75,7 @@ pub fn judge(
     queries: &[u32],
     opening: &[u32],
 ) -> Answer
-    ensures { λ a. ⌜ outcome a ≡ judgeVerifying depth rate (now (g .entry)) (now (t .entry)) (now (t2 .entry)) (now (block .entry)) (now (z .entry)) y (now (r .entry)) (now (queries .entry)) (now (opening .entry)) ⌝ }
+    ensures { λ a. ⌜ outcome a ≡ judgeVerifying 𝔽₁ depth rate (now (g .entry)) (now (t .entry)) (now (t2 .entry)) (now (block .entry)) (now (z .entry)) y (now (r .entry)) (now (queries .entry)) (now (opening .entry)) ⌝ }
 {
     let lengths = lengths_ok(
         depth,

@@ -1,6 +1,7 @@
 // The base checks: block 0 holds v times the base row.
 ghost use mathlib.Core.Path.{_≡_};
 ghost use lib.ListN.{length};
+ghost use Rattle.algebra.specs.Words.{𝔽₁};
 ghost use Rattle.algebra.specs.Lists.{row};
 ghost use Rattle.basefold.specs.Checks.{firstFailure};
 ghost use Rattle.residue.specs.Residues.{elem};
@@ -12,8 +13,8 @@ use verdict::Failure;
 use verdict::Found;
 
 pub fn bases(v: Residue, g: &[u32], bottom: &[u32]) -> Found
-    requires { ⌜ BaseInput v (now g) (now bottom) ⌝ }
-    ensures { λ f. ⌜ found f ≡ firstFailure (row (length (now (g .entry))) (baseAt (elem v) (now (g .entry)) (now (bottom .entry)))) ⌝ }
+    requires { ⌜ BaseInput 𝔽₁ v (now g) (now bottom) ⌝ }
+    ensures { λ f. ⌜ found f ≡ firstFailure (row (length (now (g .entry))) (baseAt 𝔽₁ (elem v) (now (g .entry)) (now (bottom .entry)))) ⌝ }
 {
     let mut j = 0;
     while j < g.len() {

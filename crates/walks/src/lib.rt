@@ -27,8 +27,8 @@ pub fn blocks<'a>(
     queries: &[u32],
     opening: &'a [u32],
 ) -> Found
-    requires { ⌜ (rate ≡ length (now g)) × (BlocksInput depth (now g) (now t) (now t2) (now block) (now r) (now opening)) × (QueryPlaces (length (now g)) depth (now queries)) ⌝ }
-    ensures { λ f. ⌜ found f ≡ firstFailure (baseChecks F 0 (lent (now (g .entry)) (now (t .entry)) (now (t2 .entry))) (elements 𝔽₁ (now (block .entry))) (elements 𝔽₁ (now (r .entry))) (elements 𝔽₁ (now (opening .entry))) ++ foldChecks F 0 (lent (now (g .entry)) (now (t .entry)) (now (t2 .entry))) (elements 𝔽₁ (now (block .entry))) (elements 𝔽₁ (now (r .entry))) (elements 𝔽₁ (now (opening .entry))) (now (queries .entry))) ⌝ }
+    requires { ⌜ (rate ≡ length (now g)) × (BlocksInput 𝔽₁ depth (now g) (now t) (now t2) (now block) (now r) (now opening)) × (QueryPlaces (length (now g)) depth (now queries)) ⌝ }
+    ensures { λ f. ⌜ found f ≡ firstFailure (baseChecks F 0 (lent 𝔽₁ (now (g .entry)) (now (t .entry)) (now (t2 .entry))) (elements 𝔽₁ (now (block .entry))) (elements 𝔽₁ (now (r .entry))) (elements 𝔽₁ (now (opening .entry))) ++ foldChecks F 0 (lent 𝔽₁ (now (g .entry)) (now (t .entry)) (now (t2 .entry))) (elements 𝔽₁ (now (block .entry))) (elements 𝔽₁ (now (r .entry))) (elements 𝔽₁ (now (opening .entry))) (now (queries .entry))) ⌝ }
 {
     let v = Residue::new(opening[layout::final_at(depth)]);
     let bottom = layout::level_block(depth, rate, 0, block, opening);

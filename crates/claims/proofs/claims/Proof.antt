@@ -20,21 +20,21 @@ last-requires : tie.Need-last-requires
 last-requires c κs =
     let s = c .before .before .before .before .before .before .before in
     let a = s .args in
-    last-input (a .depth) (a .y) (a .z .now) (a .r .now) (a .opening .now) _ _ (s .pre) (c .before .claim .given .1) (c .before .before .before .sums .ensures .low)
+    last-input 𝔽₁ (a .depth) (a .y) (a .z .now) (a .r .now) (a .opening .now) _ _ (s .pre) (c .before .claim .given .1) (c .before .before .before .sums .ensures .low)
 
 returns : tie.Need-returns
 returns c =
     let s = c .before .before .before .before .before .before .before in
     let a = s .args in
-    ap (afterSums (elements 𝔽₁ (a .opening .now)) (elements 𝔽₁ (a .z .now)) (elements 𝔽₁ (a .r .now))) (sym (c .before .i .given .1))
-    ∙ result-is (a .depth) (a .y) (a .r .now) (a .opening .now) (s .pre .sums) _ (c .before .before .before .sums .ensures) (elements 𝔽₁ (a .z .now))
+    ap (afterSums 𝔽₁ (elements 𝔽₁ (a .opening .now)) (elements 𝔽₁ (a .z .now)) (elements 𝔽₁ (a .r .now))) (sym (c .before .i .given .1))
+    ∙ result-is 𝔽₁ (a .depth) (a .y) (a .r .now) (a .opening .now) (s .pre .sums) _ (c .before .before .before .sums .ensures) (elements 𝔽₁ (a .z .now))
 
 returns-2 : tie.Need-returns-2
 returns-2 c =
     let s = c .before .before .before .before .before .before .before .before in
     let a = s .args in
-    c .last .ensures ∙ ap (afterSums (elements 𝔽₁ (a .opening .now)) (elements 𝔽₁ (a .z .now)) (elements 𝔽₁ (a .r .now))) (sym (c .before .before .claim .given .1))
-    ∙ result-is (a .depth) (a .y) (a .r .now) (a .opening .now) (s .pre .sums) _ (c .before .before .before .before .sums .ensures) (elements 𝔽₁ (a .z .now))
+    c .last .ensures ∙ ap (afterSums 𝔽₁ (elements 𝔽₁ (a .opening .now)) (elements 𝔽₁ (a .z .now)) (elements 𝔽₁ (a .r .now))) (sym (c .before .before .claim .given .1))
+    ∙ result-is 𝔽₁ (a .depth) (a .y) (a .r .now) (a .opening .now) (s .pre .sums) _ (c .before .before .before .before .sums .ensures) (elements 𝔽₁ (a .z .now))
 
 pub claims-spec : {M : Type 1} → statement M
 claims-spec =

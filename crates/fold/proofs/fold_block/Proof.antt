@@ -18,7 +18,7 @@ invert-neighbours-requires c κs = search needs
 
 -- the inverses are as many as the result's words
 sized : (c : tie.After-invert-neighbours) → length (c .invert-neighbours .last .1 .1 .0) ≡ length (c .before .before .before .before .before .before .args .out .now)
-sized c = ap length (c .invert-neighbours .ensures) ∙ length-rows _ _
+sized c = ap length (c .invert-neighbours .ensures) ∙ length-rows 𝔽₁ _ _
 
 draw-requires : tie.Need-draw-requires
 draw-requires c κs =
@@ -37,8 +37,8 @@ returns c =
     let made = c .before .before .before .before .before .before .invert-neighbours in
     let s′ = made .last .1 .1 .0 in
     c .before .before .draw .ensures
-    ∙ ap (λ n. toWords 𝔽₁ (row n (linesBy n (elem (a .challenge)) (a .t .now) (a .block .now) s′))) (sized (c .before .before .before .before .before .before))
-    ∙ drawn (s .pre .0) (a .block .now) (s .pre .1) (a .challenge .0) s′ (made .ensures)
+    ∙ ap (λ n. toWords 𝔽₁ (row n (linesBy 𝔽₁ n (elem (a .challenge)) (a .t .now) (a .block .now) s′))) (sized (c .before .before .before .before .before .before))
+    ∙ drawn 𝔽₁ (s .pre .0) (a .block .now) (s .pre .1) (a .challenge .0) s′ (made .ensures)
 
 pub fold-block-spec : {M : Type 1} → statement M
 fold-block-spec = tie.close (tie.spec invert-neighbours-requires draw-requires same-length returns)

@@ -3,6 +3,7 @@ use mathlib.Core.Path.{_∙_}
 use mathlib.Core.Bool.{_&&_}
 use lib.ListN.{length}
 use borrow.Author.Needs.{needs}
+use Rattle.algebra.specs.Words.{𝔽₁}
 use Rattle.job.specs.Limits.{depthOk}
 use Rattle.job.specs.Outcome.{require}
 use Rattle.job.specs.OutcomeLaws.{link, last, guarded}
@@ -37,7 +38,7 @@ returns c =
     let a = s .before .before .before .before .args in
     link _ 1 (c .require3 .ensures) (s .before .depth-ok .ensures)
     (link _ 3 (c .before .require2 .ensures) (s .lengths-ok .ensures) (last _ 4 (r .require .ensures) (r .before .words-ok .ensures)))
-    ∙ guarded (depthOk (a .depth)) (evaluateLengths (a .depth) (length (a .m .now)) (length (a .z .now))) 1 3 (require (allBelow (a .m .now) && allBelow (a .z .now)) 4)
+    ∙ guarded (depthOk (a .depth)) (evaluateLengths (a .depth) (length (a .m .now)) (length (a .z .now))) 1 3 (require (allBelow 𝔽₁ (a .m .now) && allBelow 𝔽₁ (a .z .now)) 4)
 
 pub judge-spec : {M : Type 1} → statement M
 judge-spec =

@@ -4,6 +4,7 @@ use native.Mathlib.Nat.{zero-mul, mul-comm}
 use native.Mathlib.Omega.{arith}
 use lib.Dec.{eqb}
 use lib.ListN.{length, take}
+use Rattle.algebra.specs.Words.{𝔽₁}
 use Rattle.algebra.specs.Tests.{all₂, all₂-none, all₂-end}
 use Rattle.foldable.specs.Every.{every}
 use Rattle.columns.proofs.Loops.{place-in, next-place, same-turn}
@@ -33,7 +34,7 @@ mul-ok-2 c =
     let m = length (a .w .now) in
     let e = s .pre .2 ∙ mul-comm (a .c) m in
     let h : l .i < m = omega arith in
-    let u = place-in m (a .j) (a .c) (a .block .now) (omega (arith, s .pre .0)) (l .i) (l .p) h (l .inv .1) in
+    let u = place-in 𝔽₁ m (a .j) (a .c) (a .block .now) (omega (arith, s .pre .0)) (l .i) (l .p) h (l .inv .1) in
     omega arith
 
 shared-slice-read-ok-2 : tie.Need-shared-slice-read-ok-2 Inv-loop μ-loop
@@ -44,7 +45,7 @@ shared-slice-read-ok-2 c =
     let m = length (a .w .now) in
     let e = s .pre .2 ∙ mul-comm (a .c) m in
     let h : l .i < m = omega arith in
-    let u = place-in m (a .j) (a .c) (a .block .now) (omega (arith, s .pre .0)) (l .i) (l .p) h (l .inv .1) in
+    let u = place-in 𝔽₁ m (a .j) (a .c) (a .block .now) (omega (arith, s .pre .0)) (l .i) (l .p) h (l .inv .1) in
     omega arith
 
 add-p : tie.Need-add-p Inv-loop μ-loop
@@ -55,7 +56,7 @@ add-p c =
     let m = length (a .w .now) in
     let e = s .pre .2 ∙ mul-comm (a .c) m in
     let h : l .i < m = omega arith in
-    let u = place-in m (a .j) (a .c) (a .block .now) (omega (arith, s .pre .0)) (l .i) (l .p) h (l .inv .1) in
+    let u = place-in 𝔽₁ m (a .j) (a .c) (a .block .now) (omega (arith, s .pre .0)) (l .i) (l .p) h (l .inv .1) in
     let w = s .pre .1 in
     omega arith
 

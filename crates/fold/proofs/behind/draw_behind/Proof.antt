@@ -2,13 +2,14 @@ use Prim.Native.Nat.{_-_}
 use lib.ListN.{length}
 use native.Mathlib.Omega.{arith}
 use borrow.Author.Needs.{needs}
+use Rattle.algebra.specs.Words.{𝔽₁}
 use Rattle.residue.specs.Residues.{elem}
 use Rattle.fold.proofs.Drawing.{DrawnTo, draw-none, draw-turn, draw-end, low-left, low-right, low-behind}
 use Rattle.fold.proofs.behind.draw_behind.Statement.{statement}
 use Rattle.fold.proofs.behind.draw_behind.Tie as tie
 
 abbrev Inv-loop : tie.InvT-loop
-Inv-loop t challenge w₀ n m j₀ w j = DrawnTo j (elem challenge) t w₀ w
+Inv-loop t challenge w₀ n m j₀ w j = DrawnTo 𝔽₁ j (elem challenge) t w₀ w
 
 abbrev μ-loop : tie.MeasureT-loop
 μ-loop t challenge w₀ n m j₀ w j = length t - j
@@ -17,7 +18,7 @@ add-m : tie.Need-add-m Inv-loop μ-loop
 add-m c = search needs
 
 loop-holds : tie.Need-loop-holds Inv-loop μ-loop
-loop-holds c = let s = c .before .before in let a = s .args in draw-none (elem (a .challenge)) (a .t .now) (a .w .now) (s .pre .1)
+loop-holds c = let s = c .before .before in let a = s .args in draw-none 𝔽₁ (elem (a .challenge)) (a .t .now) (a .w .now) (s .pre .1)
 
 add-k : tie.Need-add-k Inv-loop μ-loop
 add-k c = search needs
@@ -55,7 +56,7 @@ line-word-requires c κs =
     let a = s .args in
     let l = c .before .before .before .before .before .loop in
     let e = elem (a .challenge) in
-    (s .pre .0, s .pre .1 .low .low (l .j) (omega arith), low-behind e (a .t .now) (a .w .now) (s .pre .1) (l .j) (l .w) (omega arith) (l .inv), low-left e (a .t .now) (a .w .now) (s .pre .1) (l .j) (l .w) (omega arith) (l .inv), low-right e (a .t .now) (a .w .now) (s .pre .1) (l .j) (l .w) (omega arith) (l .inv))
+    (s .pre .0, s .pre .1 .low .low (l .j) (omega arith), low-behind 𝔽₁ e (a .t .now) (a .w .now) (s .pre .1) (l .j) (l .w) (omega arith) (l .inv), low-left 𝔽₁ e (a .t .now) (a .w .now) (s .pre .1) (l .j) (l .w) (omega arith) (l .inv), low-right 𝔽₁ e (a .t .now) (a .w .now) (s .pre .1) (l .j) (l .w) (omega arith) (l .inv))
 
 mul-w : tie.Need-mul-w Inv-loop μ-loop
 mul-w c = search needs
@@ -74,7 +75,7 @@ loop-again c =
     let s = c .before .before .before .before .before .before .before .before .before in
     let a = s .args in
     let l = c .before .before .before .before .before .before .loop in
-    draw-turn (elem (a .challenge)) (a .t .now) (a .w .now) (s .pre .1) (l .j) (l .w) (omega arith) (l .inv) _ (c .line-word .ensures)
+    draw-turn 𝔽₁ (elem (a .challenge)) (a .t .now) (a .w .now) (s .pre .1) (l .j) (l .w) (omega arith) (l .inv) _ (c .line-word .ensures)
 
 same-length : tie.Need-same-length Inv-loop μ-loop
 same-length c = search needs
@@ -84,7 +85,7 @@ returns c =
     let s = c .before .before .before .before in
     let a = s .args in
     let l = c .before .loop in
-    draw-end (elem (a .challenge)) (a .t .now) (a .w .now) (s .pre .1) (l .j) (l .w) (omega arith) (l .inv)
+    draw-end 𝔽₁ (elem (a .challenge)) (a .t .now) (a .w .now) (s .pre .1) (l .j) (l .w) (omega arith) (l .inv)
 
 pub draw-behind-spec : {M : Type 1} → statement M
 draw-behind-spec =

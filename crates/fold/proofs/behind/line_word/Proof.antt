@@ -1,4 +1,5 @@
 use mathlib.Core.Path.{_∙_}
+use Rattle.algebra.specs.Words.{𝔽₁}
 use Rattle.residue.specs.Residues.{el, elem, word}
 use Rattle.fold.specs.Steps.{lineBy}
 use borrow.Author.Needs.{needs}
@@ -27,7 +28,7 @@ returns : tie.Need-returns
 returns c =
     let a = c .before .before .before .before .before .before .args .a in
     c .word .ensures ∙ c .before .line .ensures
-    ∙ (λ k. word (lineBy (elem a) (el (c .before .before .before .before .before .new .ensures k)) (el (c .before .before .before .before .new2 .ensures k)) (el (c .before .before .before .new3 .ensures k)) (el (c .before .before .new4 .ensures k))))
+    ∙ (λ k. word (lineBy 𝔽₁ (elem a) (el (c .before .before .before .before .before .new .ensures k)) (el (c .before .before .before .before .new2 .ensures k)) (el (c .before .before .before .new3 .ensures k)) (el (c .before .before .new4 .ensures k))))
 
 pub line-word-spec : {M : Type 1} → statement M
 line-word-spec =

@@ -14,7 +14,7 @@ use Rattle.fold.proofs.lines.draw.Statement.{statement}
 use Rattle.fold.proofs.lines.draw.Tie as tie
 
 abbrev Inv-loop : tie.InvT-loop
-Inv-loop t block challenge out₀ j₀ out j = (j ≤ length out₀) × (length out ≡ length out₀) × Filled j (toWords 𝔽₁ (row (length out₀) (linesBy (length out₀) (elem challenge) t block out₀))) out₀ out
+Inv-loop t block challenge out₀ j₀ out j = (j ≤ length out₀) × (length out ≡ length out₀) × Filled j (toWords 𝔽₁ (row (length out₀) (linesBy 𝔽₁ (length out₀) (elem challenge) t block out₀))) out₀ out
 
 abbrev μ-loop : tie.MeasureT-loop
 μ-loop t block challenge out₀ j₀ out j = length out₀ - j
@@ -59,20 +59,20 @@ loop-again c =
     let a = c .before .before .before .before .before .before .before .before .args in
     let l = c .before .before .before .before .loop in
     let n = length (a .out .now) in
-    let f = linesBy n (elem (a .challenge)) (a .t .now) (a .block .now) (a .out .now) in
+    let f = linesBy 𝔽₁ n (elem (a .challenge)) (a .t .now) (a .block .now) (a .out .now) in
     let old = filled-old (l .inv .2) (l .j) 0 (omega arith) in
     let v =
     c .word .ensures ∙ c .before .line-at .ensures
-    ∙ (λ k. word (lineBy (elem (a .challenge)) (el (getD (a .t .now) (l .j) 0)) (el (old k)) (el (getD (a .block .now) (l .j) 0)) (el (getD (a .block .now) (l .inv .1 k + l .j) 0))))
-    ∙ sym (getD-rows n f (l .j) (omega arith)) in
-    let p = filled-turn 0 (omega arith) (length-rows n f) (l .inv .2) v in
+    ∙ (λ k. word (lineBy 𝔽₁ (elem (a .challenge)) (el (getD (a .t .now) (l .j) 0)) (el (old k)) (el (getD (a .block .now) (l .j) 0)) (el (getD (a .block .now) (l .inv .1 k + l .j) 0))))
+    ∙ sym (getD-rows 𝔽₁ n f (l .j) (omega arith)) in
+    let p = filled-turn 0 (omega arith) (length-rows 𝔽₁ n f) (l .inv .2) v in
     (omega arith, filled-length p, p)
 
 same-length : tie.Need-same-length Inv-loop μ-loop
 same-length c = search needs
 
 returns : tie.Need-returns Inv-loop μ-loop
-returns c = let l = c .before .loop in filled-end (omega arith) (length-rows _ _) (l .inv .2)
+returns c = let l = c .before .loop in filled-end (omega arith) (length-rows 𝔽₁ _ _) (l .inv .2)
 
 pub draw-spec : {M : Type 1} → statement M
 draw-spec =

@@ -1,3 +1,4 @@
+use Rattle.algebra.specs.Words.{𝔽₁}
 use Rattle.fold.proofs.Straight.{line-word}
 use Rattle.residue.specs.ResidueLaws.{is-low}
 use borrow.Author.Needs.{needs}
@@ -11,15 +12,15 @@ minus-requires-2 : tie.Need-minus-requires-2
 minus-requires-2 c κs = search needs
 
 times-requires : tie.Need-times-requires
-times-requires c κs = (search needs, is-low _ (c .minus2 .ensures))
+times-requires c κs = (search needs, is-low 𝔽₁ _ (c .minus2 .ensures))
 
 plus-product-requires : tie.Need-plus-product-requires
-plus-product-requires c κs = (search needs, is-low _ (c .before .before .minus .ensures), is-low _ (c .times .ensures))
+plus-product-requires c κs = (search needs, is-low 𝔽₁ _ (c .before .before .minus .ensures), is-low 𝔽₁ _ (c .times .ensures))
 
 returns : tie.Need-returns
 returns c =
     let a = c .before .before .before .before .args in
-    line-word (a .a .0) (a .t .0) (a .s .0) (a .u .0) (a .v .0) (c .before .before .before .minus .ensures) (c .before .before .minus2 .ensures) (c .before .times .ensures) (c .plus-product .ensures)
+    line-word 𝔽₁ (a .a .0) (a .t .0) (a .s .0) (a .u .0) (a .v .0) (c .before .before .before .minus .ensures) (c .before .before .minus2 .ensures) (c .before .times .ensures) (c .plus-product .ensures)
 
 pub line-spec : {M : Type 1} → statement M
 line-spec =

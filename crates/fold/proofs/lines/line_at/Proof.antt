@@ -2,6 +2,7 @@ use mathlib.Core.Path.{_∙_}
 use Prim.Native.Nat.{_+_}
 use native.Mathlib.Omega.{arith}
 use lib.ListN.{length}
+use Rattle.algebra.specs.Words.{𝔽₁}
 use Rattle.residue.specs.Residues.{el, elem, word}
 use Rattle.fold.specs.Steps.{lineBy}
 use borrow.Author.Needs.{needs}
@@ -63,7 +64,7 @@ returns : tie.Need-returns
 returns c =
     let a = c .before .before .before .before .before .before .before .before .before .before .before .before .args .a in
     c .line .ensures
-    ∙ (λ k. word (lineBy (elem a) (el (c .before .before .before .new3 .ensures k)) (el (c .before .new4 .ensures k)) (el (c .before .before .before .before .before .before .before .new .ensures k)) (el (c .before .before .before .before .before .new2 .ensures k))))
+    ∙ (λ k. word (lineBy 𝔽₁ (elem a) (el (c .before .before .before .new3 .ensures k)) (el (c .before .new4 .ensures k)) (el (c .before .before .before .before .before .before .before .new .ensures k)) (el (c .before .before .before .before .before .new2 .ensures k))))
 
 pub line-at-spec : {M : Type 1} → statement M
 line-at-spec =

@@ -1,3 +1,4 @@
+use Rattle.algebra.specs.Words.{𝔽₁}
 use Rattle.residue.specs.ResidueLaws.{is-low}
 use Rattle.polynomial.proofs.Factors.{factor-word}
 use borrow.Author.Needs.{needs}
@@ -14,10 +15,10 @@ minus-requires-2 : tie.Need-minus-requires-2
 minus-requires-2 c κs = search needs
 
 plus-product-requires : tie.Need-plus-product-requires
-plus-product-requires c κs = (is-low _ (c .before .before .times .ensures), is-low _ (c .before .minus .ensures), is-low _ (c .minus2 .ensures))
+plus-product-requires c κs = (is-low 𝔽₁ _ (c .before .before .times .ensures), is-low 𝔽₁ _ (c .before .minus .ensures), is-low 𝔽₁ _ (c .minus2 .ensures))
 
 returns : tie.Need-returns
-returns c = let a = c .before .before .before .before .args in factor-word (a .z .0) (a .x .0) (c .before .before .before .times .ensures) (c .before .before .minus .ensures) (c .before .minus2 .ensures) (c .plus-product .ensures)
+returns c = let a = c .before .before .before .before .args in factor-word 𝔽₁ (a .z .0) (a .x .0) (c .before .before .before .times .ensures) (c .before .before .minus .ensures) (c .before .minus2 .ensures) (c .plus-product .ensures)
 
 pub factor-spec : {M : Type 1} → statement M
 factor-spec =

@@ -1,12 +1,13 @@
 use Prim.Native.Nat.{_-_, _≤_}
 use native.Mathlib.Omega.{arith}
 use borrow.Author.Needs.{needs}
+use Rattle.algebra.specs.Words.{𝔽₁}
 use Rattle.polynomial.proofs.LowMonomials.{Grown, grown-none, room, extensible, grown-turn, grown-end}
 use Rattle.polynomial.proofs.monomials.fill.Statement.{statement}
 use Rattle.polynomial.proofs.monomials.fill.Tie as tie
 
 abbrev Inv-loop : tie.InvT-loop
-Inv-loop w₀ z k size₀ i₀ w size i = (i ≤ k) × Grown z i size w
+Inv-loop w₀ z k size₀ i₀ w size i = (i ≤ k) × Grown 𝔽₁ z i size w
 
 abbrev μ-loop : tie.MeasureT-loop
 μ-loop w₀ z k size₀ i₀ w size i = k - i
@@ -20,7 +21,7 @@ slice-write-w c = omega arith
 loop-holds : tie.Need-loop-holds Inv-loop μ-loop
 loop-holds c =
     let s = c .before .before .before in
-    (omega arith, grown-none (s .args .z .now) (s .args .w .now) (s .pre .0))
+    (omega arith, grown-none 𝔽₁ (s .args .z .now) (s .args .w .now) (s .pre .0))
 
 mul-extend : tie.Need-mul-extend Inv-loop μ-loop
 mul-extend c = omega arith
@@ -32,12 +33,12 @@ extend-requires : tie.Need-extend-requires Inv-loop μ-loop
 extend-requires c κs =
     let l = c .before .before .before .loop in
     let s = c .before .before .before .before .before .before .before in
-    extensible (s .args .z .now) (l .i) (l .size) (l .w) (l .inv .1) (omega arith) _ (s .pre .1 .low _ (omega arith))
+    extensible 𝔽₁ (s .args .z .now) (l .i) (l .size) (l .w) (l .inv .1) (omega arith) _ (s .pre .1 .low _ (omega arith))
 
 add-size : tie.Need-add-size Inv-loop μ-loop
 add-size c =
     let l = c .before .before .before .before .before .before .loop in
-    omega (arith, room _ (l .i) (l .size) (l .w) (l .inv .1) (omega arith))
+    omega (arith, room 𝔽₁ _ (l .i) (l .size) (l .w) (l .inv .1) (omega arith))
 
 add-i : tie.Need-add-i Inv-loop μ-loop
 add-i c = omega arith
@@ -48,7 +49,7 @@ loop-less c = omega arith
 loop-again : tie.Need-loop-again Inv-loop μ-loop
 loop-again c =
     let l = c .before .before .before .before .before .before .loop in
-    (omega arith, grown-turn _ (l .i) (l .size) (l .w) (l .inv .1) (omega arith) (omega arith) _ (c .before .before .extend .ensures))
+    (omega arith, grown-turn 𝔽₁ _ (l .i) (l .size) (l .w) (l .inv .1) (omega arith) (omega arith) _ (c .before .before .extend .ensures))
 
 same-length : tie.Need-same-length Inv-loop μ-loop
 same-length c = omega arith
@@ -57,7 +58,7 @@ returns : tie.Need-returns Inv-loop μ-loop
 returns c =
     let l = c .before .loop in
     let k = c .before .before .shorter .ensures in
-    grown-end _ (l .i) (l .size) (l .w) (l .inv .1) (omega arith) (λ p q. k .2 (omega arith) (omega arith))
+    grown-end 𝔽₁ _ (l .i) (l .size) (l .w) (l .inv .1) (omega arith) (λ p q. k .2 (omega arith) (omega arith))
 
 pub fill-spec : {M : Type 1} → statement M
 fill-spec =

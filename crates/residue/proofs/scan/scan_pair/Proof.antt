@@ -1,3 +1,4 @@
+use Rattle.algebra.specs.Words.{𝔽₁}
 use Rattle.residue.specs.ScanLaws.{pair-scanned}
 use borrow.Author.Needs.{needs}
 use Rattle.residue.proofs.scan.scan_pair.Statement.{statement}
@@ -43,7 +44,7 @@ returns : tie.Need-returns
 returns c =
     let a = c .before .before .before .before .before .before .before .before .before .args in
     let n = c .before .before .before .before .before .before .shorter .ensures in
-    pair-scanned _ (a .s .now) (a .t .now) (n .0) (n .1) (n .2) (c .before .before .before .before .before .scan-places .ensures) (c .before .before .before .all-below .ensures) (c .before .all-below2 .ensures)
+    pair-scanned 𝔽₁ _ (a .s .now) (a .t .now) (n .0) (n .1) (n .2) (c .before .before .before .before .before .scan-places .ensures) (c .before .before .before .all-below .ensures) (c .before .all-below2 .ensures)
 
 pub scan-pair-spec : {M : Type 1} → statement M
 scan-pair-spec =

@@ -5,6 +5,7 @@ use native.Mathlib.Omega.{arith}
 use borrow.Author.Needs.{needs}
 use lib.Dec.{ltb, eqb}
 use lib.ListN.{take}
+use Rattle.algebra.specs.Words.{𝔽₁}
 use Rattle.algebra.specs.Tests.{not-or, all₂-none, all₂-turn}
 use Rattle.residue.specs.Residues.{P}
 use Rattle.residue.specs.Scans.{PlacesScanned}
@@ -12,7 +13,7 @@ use Rattle.residue.proofs.scan.scan_places.Statement.{statement}
 use Rattle.residue.proofs.scan.scan_places.Tie as tie
 
 abbrev Inv-loop : tie.InvT-loop
-Inv-loop n s t high₀ equal₀ j₀ high equal j = (j ≤ n) × PlacesScanned (take j s) (take j t) (not high) (not equal)
+Inv-loop n s t high₀ equal₀ j₀ high equal j = (j ≤ n) × PlacesScanned 𝔽₁ (take j s) (take j t) (not high) (not equal)
 
 abbrev μ-loop : tie.MeasureT-loop
 μ-loop n s t high₀ equal₀ j₀ high equal j = n - j

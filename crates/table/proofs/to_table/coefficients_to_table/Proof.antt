@@ -2,6 +2,7 @@
 use mathlib.Core.Path.{_≡_, sym, ap, _∙_}
 use lib.ListN.{length}
 use borrow.Author.Needs.{needs}
+use Rattle.algebra.specs.Words.{𝔽₁}
 use Rattle.job.specs.Outcome.{done, outcome}
 use Rattle.residue.specs.ScanLaws.{all-below}
 use Rattle.table.specs.Jobs.{judgeMessage}
@@ -25,7 +26,7 @@ find-requires : tie.Need-find-requires
 find-requires c κs =
     let a = c .before .before .before .before .before .before .before .args in
     let l = message-passed (a .message .now) (length (a .clearances .now)) (length (a .work .now)) (sym (fine (c .before .before))) in
-    ((l .power, all-below _ (l .below)), (l .same, l .room))
+    ((l .power, all-below 𝔽₁ _ (l .below)), (l .same, l .room))
 
 enum-known-verdict : tie.Need-enum-known-verdict
 enum-known-verdict c = search needs

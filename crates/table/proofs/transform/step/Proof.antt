@@ -1,6 +1,7 @@
 -- The operation on residues that the way asks for. Assumes nothing.
 use mathlib.Core.Path.{sym, ap, _∙_}
 use borrow.Author.Needs.{needs}
+use Rattle.algebra.specs.Words.{𝔽₁}
 use Rattle.residue.specs.Residues.{word, el}
 use Rattle.table.specs.Passes.{across}
 use Rattle.table.proofs.transform.step.Statement.{statement}
@@ -21,12 +22,12 @@ plus-requires c κs = search needs
 returns : tie.Need-returns
 returns c =
     let x = c .before .before .before .args in
-    c .minus .ensures ∙ ap (λ w. word (across w (el (x .x)) (el (x .y)))) (sym (c .before .enum-told .given .1))
+    c .minus .ensures ∙ ap (λ w. word (across 𝔽₁ w (el (x .x)) (el (x .y)))) (sym (c .before .enum-told .given .1))
 
 returns-2 : tie.Need-returns-2
 returns-2 c =
     let x = c .before .before .before .args in
-    c .plus .ensures ∙ ap (λ w. word (across w (el (x .x)) (el (x .y)))) (sym (c .before .enum-told2 .given .1))
+    c .plus .ensures ∙ ap (λ w. word (across 𝔽₁ w (el (x .x)) (el (x .y)))) (sym (c .before .enum-told2 .given .1))
 
 pub step-spec : {M : Type 1} → statement M
 step-spec =

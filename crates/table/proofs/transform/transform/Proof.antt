@@ -1,27 +1,28 @@
 -- Before the pass of a variable the passes of all lower ones are done. Assumes nothing.
 use Prim.Native.Nat.{_-_}
 use native.Mathlib.Omega.{arith}
+use Rattle.algebra.specs.Words.{𝔽₁}
 use Rattle.table.specs.Passes.{across}
 use Rattle.table.proofs.Passing.{Reached, reached-none, reached-length, reached-asks, reached-fits, reached-turn, reached-end}
 use Rattle.table.proofs.transform.transform.Statement.{statement}
 use Rattle.table.proofs.transform.transform.Tie as tie
 
 abbrev Inv-loop : tie.InvT-loop
-Inv-loop way depth s₀ level₀ half₀ count₀ s level half count = Reached (across way) depth s₀ level half count s
+Inv-loop way depth s₀ level₀ half₀ count₀ s level half count = Reached 𝔽₁ (across 𝔽₁ way) depth s₀ level half count s
 
 abbrev μ-loop : tie.MeasureT-loop
 μ-loop way depth s₀ level₀ half₀ count₀ s level half count = depth - level
 
 loop-holds : tie.Need-loop-holds Inv-loop μ-loop
-loop-holds c = reached-none _ _ _ (c .before .pre .0) (c .before .pre .1)
+loop-holds c = reached-none 𝔽₁ _ _ _ (c .before .pre .0) (c .before .pre .1)
 
 sweep-requires : tie.Need-sweep-requires Inv-loop μ-loop
-sweep-requires c κs = reached-asks (c .before .before .loop .inv) (c .before .loop-test .taken)
+sweep-requires c κs = reached-asks 𝔽₁ (c .before .before .loop .inv) (c .before .loop-test .taken)
 
 mul-half : tie.Need-mul-half Inv-loop μ-loop
 mul-half c =
     let l = c .before .before .before .before .before in
-    record { fits = omega (arith, reached-fits (l .loop .inv) (c .before .before .before .before .loop-test .taken), l .before .before .good .1 .1 .0 .0) }
+    record { fits = omega (arith, reached-fits 𝔽₁ (l .loop .inv) (c .before .before .before .before .loop-test .taken), l .before .before .good .1 .1 .0 .0) }
 
 add-level : tie.Need-add-level Inv-loop μ-loop
 add-level c = record { fits = omega (arith, c .before .before .before .before .before .before .before .fits .depth .fits, c .before .before .before .before .loop-test .taken) }
@@ -30,13 +31,13 @@ loop-less : tie.Need-loop-less Inv-loop μ-loop
 loop-less c = omega arith
 
 loop-again : tie.Need-loop-again Inv-loop μ-loop
-loop-again c = reached-turn (c .before .before .before .before .before .loop .inv) (c .before .before .before .before .loop-test .taken) (c .before .before .sweep .ensures)
+loop-again c = reached-turn 𝔽₁ (c .before .before .before .before .before .loop .inv) (c .before .before .before .before .loop-test .taken) (c .before .before .sweep .ensures)
 
 same-length : tie.Need-same-length Inv-loop μ-loop
-same-length c = reached-length (c .before .loop .inv)
+same-length c = reached-length 𝔽₁ (c .before .loop .inv)
 
 returns : tie.Need-returns Inv-loop μ-loop
-returns c = reached-end (c .before .loop .inv) (c .loop-test .left)
+returns c = reached-end 𝔽₁ (c .before .loop .inv) (c .loop-test .left)
 
 pub transform-spec : {M : Type 1} → statement M
 transform-spec =
