@@ -14,10 +14,10 @@ use Rattle.clearance.specs.Clearances.{border, meaning, free, contact, o
 use Rattle.clearance.specs.ClearanceLaws.{clearance-pos, clearance-negsuc}
 use Rattle.clearance.specs.Reading.{reading}
 
-pub no-residue : (w : ℕ) → TooLarge ≡ parsed w → refused 4 ≡ reading w
+pub no-residue : (w : ℕ) → TooLarge ≡ parsed w → refused (4, 0, 0) ≡ reading w
 no-residue w e = go (ltb w P) refl e
   where
-    go : (b : Bool) → ltb w P ≡ b → TooLarge ≡ parsedBy b w → refused 4 ≡ reading w
+    go : (b : Bool) → ltb w P ≡ b → TooLarge ≡ parsedBy b w → refused (4, 0, 0) ≡ reading w
     go true p q = absurd (let z : _≡_ {A = ℕ} 0 1 = cc in omega arith)
     go false p q = stop _ p
 

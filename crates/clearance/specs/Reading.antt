@@ -1,7 +1,7 @@
 -- What reading a word as a clearance gives. Assumes nothing.
 use Prim.Native.Nat.{ℕ}
 use lib.Dec.{ltb}
-use Rattle.job.specs.Outcome.{Outcome, refused, done, require, _⨾_, number}
+use Rattle.job.specs.Outcome.{Outcome, refused, done, require, _⨾_, due}
 use Rattle.residue.specs.Residues.{P}
 use Rattle.clearance.specs.Clearances.{clearanceOf, Meaning, free, contact, overlap, meaning}
 use Rattle.clearance.specs.declared.reading.Reading.{Reading}
@@ -16,4 +16,4 @@ abbrev pub readingOutcome : Reading → Outcome Meaning
 readingOutcome (Free n) = done (free n)
 readingOutcome Contact = done contact
 readingOutcome (Overlap n) = done (overlap n)
-readingOutcome (Refused r) = refused (number r)
+readingOutcome (Refused r) = refused (due r)

@@ -9,7 +9,7 @@ use Rattle.algebra.specs.Words.{PrimeField}
 use Rattle.algebra.specs.WordLists.{Low, elements}
 use Rattle.foldable.specs.Code.{Codeword}
 use Rattle.job.specs.declared.Answer.{Answer}
-use Rattle.job.specs.Outcome.{Outcome, refused, done, outcome}
+use Rattle.job.specs.Outcome.{Numbers, Outcome, refused, done, outcome}
 use Rattle.job.specs.Limits.{blockSize}
 use Rattle.residue.specs.Scans.{allBelow}
 use Rattle.parameters.specs.Lent.{lent, codeword}
@@ -30,9 +30,9 @@ module _ (𝓕 : PrimeField) where
   -- answer r and result out for a block for which none of these is due: out is a message whose codeword it is; or it is no codeword, and out is as it was
   pub data Settled (d : ℕ) (g t t' b old : List ℕ) (r : Answer) (out : List ℕ) : Type 0 where
     message : outcome r ≡ done tt → length out ≡ 2 ^ d → Low P out → codeword 𝓕 d g t t' out ≡ b → Settled d g t t' b old r out
-    none : outcome r ≡ refused 8 → (Codeword F (lent 𝓕 g t t') d (elements 𝓕 b) → ⊥) → out ≡ old → Settled d g t t' b old r out
+    none : outcome r ≡ refused (8, 0, 0) → (Codeword F (lent 𝓕 g t t') d (elements 𝓕 b) → ⊥) → out ≡ old → Settled d g t t' b old r out
 
   -- answer r, result out and work buffer work, which were old and space
   pub data Decoded (d c : ℕ) (g t t' b old space : List ℕ) (r : Answer) (out work : List ℕ) : Type 0 where
-    refusal : (n : ℕ) → judgeDecoding d c g t t' b (length old) (length space) ≡ refused n → outcome r ≡ refused n → out ≡ old → work ≡ space → Decoded d c g t t' b old space r out work
+    refusal : (n : Numbers) → judgeDecoding d c g t t' b (length old) (length space) ≡ refused n → outcome r ≡ refused n → out ≡ old → work ≡ space → Decoded d c g t t' b old space r out work
     settled : judgeDecoding d c g t t' b (length old) (length space) ≡ done tt → Settled d g t t' b old r out → work ≡ replicate (length space) 0 → Decoded d c g t t' b old space r out work

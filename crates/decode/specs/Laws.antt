@@ -18,8 +18,8 @@ use Rattle.algebra.specs.WordLists.{Low, elements, toWords, length-elements, el
 use Rattle.foldable.specs.Code.{Codeword}
 use Rattle.foldable.specs.Decode.{Decoder, rowDecoder, unique-decoded}
 use Rattle.job.specs.declared.Answer.{Answer}
-use Rattle.job.specs.Outcome.{Outcome, refused, done, outcome}
-use Rattle.job.specs.OutcomeLaws.{require-done, held, both, same-answer}
+use Rattle.job.specs.Outcome.{Numbers, Outcome, refused, done, outcome}
+use Rattle.job.specs.OutcomeLaws.{require-done, held, both, same-answer, named}
 use Rattle.job.specs.Limits.{maxDepth, blockSize, diagonalsSize}
 use Rattle.job.specs.LimitLaws.{rate-least, rate-most}
 use Rattle.residue.specs.Scans.{allBelow, noneZero, allDiffer}
@@ -38,7 +38,7 @@ module _ (𝓕 : PrimeField) where
   open Vectors (vectors K) using (_⊛_)
 
   -- the tests give the numbers 1 to 6
-  decoding-most : (d c : ℕ) (g t t' b : List ℕ) (m k n : ℕ) → judgeDecoding 𝓕 d c g t t' b m k ≡ refused n → n ≤ 6
+  decoding-most : (d c : ℕ) (g t t' b : List ℕ) (m k : ℕ) (n : Numbers) → judgeDecoding 𝓕 d c g t t' b m k ≡ refused n → n .0 ≤ 6
   unfolding judgeDecoding
   decoding-most d c g t t' b m k n =
       judge-number (λ n. n ≤ 6) (λ k lo hi. hi) d c g t t' (decodeLengths d c (length g) (length t) (length t') (length b) m k) (rowWords 𝓕 g t t' && allBelow 𝓕 b)
@@ -139,9 +139,9 @@ module _ (𝓕 : PrimeField) where
       gives m l p e (settled j' s w) = settled-message d g t t' b (length space) (known j) old r out m s l p e
 
     -- 8 is given exactly where none of them is due and the block is no codeword
-    pub eight : (r : Answer) (out work : List ℕ) → Result r out work → (outcome r ≡ refused 8) ↔ ((judged ≡ done tt) × (Codeword F (lent 𝓕 g t t') d (elements 𝓕 b) → ⊥))
+    pub eight : (r : Answer) (out work : List ℕ) → Result r out work → (outcome r ≡ refused (8, 0, 0)) ↔ ((judged ≡ done tt) × (Codeword F (lent 𝓕 g t t') d (elements 𝓕 b) → ⊥))
     eight r out work (refusal n j a o w) = (
-      λ e. let same : n ≡ 8 = cc in absurd (omega (arith, decoding-most d c g t t' b (length old) (length space) n j)),
+      λ e. let same : n .0 ≡ 8 = ap (λ o. named o .0) (sym a ∙ e) in absurd (omega (arith, decoding-most d c g t t' b (length old) (length space) n j)),
       λ x. absurd (let f : judged ≡ done tt = x .0 in let z : _≡_ {A = ℕ} 0 1 = cc in omega arith),
     )
     eight r out work (settled j (message a l p e) w) = (

@@ -8,16 +8,16 @@ use Rattle.job.specs.declared.Refusal.{Refusal}
 use Rattle.job.specs.declared.Refusal.the-variants.{Depth, Rate, Length, Word, BaseRow, Diagonals, Queries, NoCodeword, Clearance}
 use Rattle.job.specs.declared.Answer.{Answer}
 use Rattle.job.specs.declared.Answer.the-variants.{Done, Refused}
-use Rattle.job.specs.Outcome.{Outcome, refused, done, outcome, require, _⨾_, kept}
+use Rattle.job.specs.Outcome.{Numbers, Outcome, refused, done, outcome, require, _⨾_, kept}
 
 -- what the first outcome decides of two
-pub after-refused : {A B : Type 0} {o : Outcome A} (next : Outcome B) {n : ℕ} → refused n ≡ o → refused n ≡ o ⨾ next
+pub after-refused : {A B : Type 0} {o : Outcome A} (next : Outcome B) {n : Numbers} → refused n ≡ o → refused n ≡ o ⨾ next
 after-refused next e = ap (λ o. o ⨾ next) e
 
 pub after-done : {A B : Type 0} {o : Outcome A} {next x : Outcome B} {a : A} → done a ≡ o → x ≡ next → x ≡ o ⨾ next
 after-done {next = next} e f = f ∙ ap (λ o. o ⨾ next) e
 
-pub stop : {B : Type 0} {b : Bool} {n : ℕ} (next : Outcome B) → b ≡ false → refused n ≡ require b n ⨾ next
+pub stop : {B : Type 0} {b : Bool} {n : ℕ} (next : Outcome B) → b ≡ false → refused (n, 0, 0) ≡ require b n ⨾ next
 stop {n = n} next e = sym (ap (λ t. require t n ⨾ next) e)
 
 pub pass : {B : Type 0} {b : Bool} (n : ℕ) {next x : Outcome B} → b ≡ true → x ≡ next → x ≡ require b n ⨾ next
@@ -55,7 +55,7 @@ both (done tt) e = (refl, e)
 pub kept-done : {A B : Type 0} {o : Outcome A} {a : A} (old : List B) {new out : List B} → o ≡ done a → out ≡ new → out ≡ kept o old new
 kept-done old {new = new} e f = f ∙ sym (ap (λ o. kept o old new) e)
 
-pub kept-refused : {A B : Type 0} {o : Outcome A} {n : ℕ} (old new : List B) → o ≡ refused n → old ≡ kept o old new
+pub kept-refused : {A B : Type 0} {o : Outcome A} {n : Numbers} (old new : List B) → o ≡ refused n → old ≡ kept o old new
 kept-refused old new e = sym (ap (λ o. kept o old new) e)
 
 -- a test that is only asked where another holds, after that one
@@ -63,13 +63,22 @@ pub guarded : {B : Type 0} (a b : Bool) (n k : ℕ) (next : Outcome B) → requi
 guarded true b n k next = refl
 guarded false b n k next = refl
 
--- what holds of the number of each test that may refuse holds of a refusal
-pub require-number : (Q : ℕ → Type 0) (b : Bool) (k : ℕ) {n : ℕ} → Q k → require b k ≡ refused n → Q n
-require-number Q true k q e = absurd (let z : _≡_ {A = ℕ} 0 1 = cc in omega arith)
-require-number Q false k {n} q e = let same : k ≡ n = cc in subst Q same q
+-- what a refusal names
+abbrev pub named : {A : Type 0} → Outcome A → Numbers
+named (refused n) = n
+named (done a) = (0, 0, 0)
 
-pub after-number : {A B : Type 0} (Q : ℕ → Type 0) (o : Outcome A) {next : Outcome B} {n : ℕ} → (o ≡ refused n → Q n) → (next ≡ refused n → Q n) → o ⨾ next ≡ refused n → Q n
-after-number Q (refused k) {n = n} f g e = f (let same : k ≡ n = cc in ap refused same)
+pub same-refusal : {A B : Type 0} {k n : Numbers} → _≡_ {A = Outcome A} (refused k) (refused n) → _≡_ {A = Outcome B} (refused k) (refused n)
+same-refusal e = ap (λ o. refused (named o)) e
+
+-- what holds of the number of each test that may refuse holds of a refusal's
+pub require-number : (Q : ℕ → Type 0) (b : Bool) (k : ℕ) {n : Numbers} → Q k → require b k ≡ refused n → Q (n .0)
+require-number Q true k q e = absurd (let z : _≡_ {A = ℕ} 0 1 = cc in omega arith)
+require-number Q false k q e = subst Q (ap (λ o. named o .0) e) q
+
+pub after-number : {A B : Type 0} (Q : ℕ → Type 0) (o : Outcome A) {next : Outcome B} {n : Numbers} → (o ≡ refused n → Q (n .0)) → (next ≡ refused n → Q (n .0))
+    → o ⨾ next ≡ refused n → Q (n .0)
+after-number Q (refused k) f g e = f (same-refusal e)
 after-number Q (done a) f g e = g e
 
 -- an answer is determined by its outcome
@@ -86,7 +95,7 @@ ofNumber (suc (suc (suc (suc (suc (suc (suc (suc zero)))))))) = NoCodeword
 ofNumber (suc (suc (suc (suc (suc (suc (suc (suc (suc n))))))))) = Clearance
 
 abbrev ofOutcome : Outcome (Unit {0}) → Answer
-ofOutcome (refused n) = Refused (ofNumber n)
+ofOutcome (refused n) = Refused (ofNumber (n .0))
 ofOutcome (done a) = Done
 
 of-outcome : (r : Answer) → ofOutcome (outcome r) ≡ r

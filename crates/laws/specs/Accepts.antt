@@ -31,13 +31,13 @@ use Rattle.basefold.specs.Plain.{carried-plain, base-plain, elements-block}
 use Rattle.basefold.specs.Equations.{placeAt, claim, Equations}
 use Rattle.basefold.specs.Honest.{Queries}
 use Rattle.basefold.specs.Accepts.{none-fails-exactly}
-use Rattle.job.specs.Outcome.{Outcome, refused, done, _⨾_}
+use Rattle.job.specs.Outcome.{Numbers, Outcome, refused, done, _⨾_}
 use Rattle.job.specs.OutcomeLaws.{require-done, held, both, require-number, after-number}
 use Rattle.job.specs.Limits.{blockSize}
 use Rattle.parameters.specs.Lent.{lent, diagonal}
 use Rattle.parameters.specs.Parameters.{limits, rowLengths, judgeRow}
 use Rattle.parameters.specs.ParameterLaws.{row-lengths, judge-number}
-use Rattle.verdict.specs.Verdicts.{Numbers, checkNumbers, numbersOf}
+use Rattle.verdict.specs.Verdicts.{checkNumbers, numbersOf}
 use Rattle.verify.specs.Verifying.{openedLengths, openedWords, queriesOk, judgeVerifying, verification}
 use Rattle.laws.specs.Openings.{legal-queries}
 use Rattle.laws.specs.Equations.{sentElement, finalElement, blockElement, claimed, Accepts}
@@ -63,13 +63,13 @@ check-least (baseCheck j) = omega arith
 check-least (foldCheck q i) = omega arith
 
 -- a check is named exactly when nothing is refused and it is the first that fails
-named-split : (j : Outcome (Unit {0})) (f : Option Check) (c : Check) → ((n : ℕ) → j ≡ refused n → Number n) → numbersOf (j ⨾ done f) ≡ checkNumbers c → (j ≡ done tt) × (f ≡ some c)
+named-split : (j : Outcome (Unit {0})) (f : Option Check) (c : Check) → ((n : Numbers) → j ≡ refused n → Number (n .0)) → numbersOf (j ⨾ done f) ≡ checkNumbers c → (j ≡ done tt) × (f ≡ some c)
 named-split (refused n) f c p e = absurd (omega (arith, p n refl .1, check-least c, ap (λ x. x .0) e))
 named-split (done tt) none c p e = absurd (omega (arith, check-least c, ap (λ x. x .0) e))
 named-split (done tt) (some b) c p e = (refl, ap some (sym (check-numbers b) ∙ ap checkOf e ∙ check-numbers c))
 
 -- 0 is answered exactly when nothing is refused and no check fails
-accepted-split : (j : Outcome (Unit {0})) (f : Option Check) → ((n : ℕ) → j ≡ refused n → Number n) → numbersOf (j ⨾ done f) ≡ (0, 0, 0) → (j ≡ done tt) × (f ≡ none)
+accepted-split : (j : Outcome (Unit {0})) (f : Option Check) → ((n : Numbers) → j ≡ refused n → Number (n .0)) → numbersOf (j ⨾ done f) ≡ (0, 0, 0) → (j ≡ done tt) × (f ≡ none)
 accepted-split (refused n) f p e = absurd (omega (arith, p n refl .0, ap (λ x. x .0) e))
 accepted-split (done tt) none p e = (refl, refl)
 accepted-split (done tt) (some c) p e = absurd (omega (arith, check-least c, ap (λ x. x .0) e))
@@ -86,7 +86,7 @@ module _ (𝓕 : PrimeField) where
     abbrev judged : Outcome (Unit {0})
     judged = judgeVerifying 𝓕 d c g t t' w z y r us o
 
-    refusals : (n : ℕ) → judged ≡ refused n → Number n
+    refusals : (n : Numbers) → judged ≡ refused n → Number (n .0)
     unfolding judgeVerifying
     refusals n =
         after-number Number (judgeRow d c g t t' lengths words) (judge-number Number (λ k lo hi. (lo, omega arith)) d c g t t' lengths words)

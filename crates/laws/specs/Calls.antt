@@ -24,7 +24,7 @@ levelsBelow c i t = take (diagonalsSize c i) t
 
 -- a call of decoding that none of 1 to 6 refuses: the block is a codeword, or 8
 abbrev pub Decides : Answer → Type 0
-Decides r = (outcome r ≡ done tt) ⊎ (outcome r ≡ refused 8)
+Decides r = (outcome r ≡ done tt) ⊎ (outcome r ≡ refused (8, 0, 0))
 
 -- what is known of the answers r of decoding a block, fa and fb of folding it by two challenges, and ra and rb of decoding both folds
 pub record TwoChallenges (r fa fb ra rb : Answer) : Type 0 where

@@ -17,8 +17,8 @@ use Rattle.basefold.specs.Checks.{Check}
 use Rattle.job.specs.declared.Refusal.{Refusal}
 use Rattle.job.specs.declared.Answer.the-variants.{Done, Refused}
 use Rattle.job.specs.declared.Answer.{Answer}
-use Rattle.job.specs.Outcome.{Outcome, refused, done, number, outcome, kept, _⨾_}
-use Rattle.job.specs.OutcomeLaws.{require-done, both}
+use Rattle.job.specs.Outcome.{Numbers, Outcome, refused, done, due, outcome, kept, _⨾_}
+use Rattle.job.specs.OutcomeLaws.{require-done, both, same-refusal}
 use Rattle.job.specs.Limits.{blockSize}
 use Rattle.residue.specs.Scans.{allBelow}
 use Rattle.residue.specs.ScanLaws.{all-below}
@@ -41,8 +41,8 @@ after-value : (j : Outcome (Unit {0})) (v : ℕ) (O : List ℕ) (f : ℕ → Lis
 after-value (refused n) v O f o p q = absurd (let z : _≡_ {A = ℕ} 0 1 = cc in omega arith)
 after-value (done tt) v O f {y} o p q = let same : y ≡ v = cc in ap₂ (λ a b. numbersOf (f a b)) same q
 
-after-refusal : (j : Outcome (Unit {0})) (v : ℕ) (next : Outcome (Option Check)) {n : ℕ} → refused n ≡ j ⨾ done v → (n, 0, 0) ≡ numbersOf (j ⨾ next)
-after-refusal (refused k) v next {n} e = let same : n ≡ k = cc in ap (λ x. (x, 0, 0)) same
+after-refusal : (j : Outcome (Unit {0})) (v : ℕ) (next : Outcome (Option Check)) {n : Numbers} → refused n ≡ j ⨾ done v → n ≡ numbersOf (j ⨾ next)
+after-refusal (refused k) v next e = ap numbersOf (same-refusal e)
 after-refusal (done tt) v next e = absurd (let z : _≡_ {A = ℕ} 0 1 = cc in omega arith)
 
 module _ (𝓕 : PrimeField) where
@@ -58,7 +58,7 @@ module _ (𝓕 : PrimeField) where
           work = p .work;
         }
 
-    pub not-opened : {n : Refusal} {v : Verdict} → a ≡ NotWritten n → numbers v ≡ (number n, 0, 0) → OpenVerify 𝓕 d c g t t' m z r us w o s v o' s'
+    pub not-opened : {n : Refusal} {v : Verdict} → a ≡ NotWritten n → numbers v ≡ due n → OpenVerify 𝓕 d c g t t' m z r us w o s v o' s'
     not-opened e h = record { verdict = h ∙ after-refusal (judgeWriting 𝓕 d c g t t' m z r (length o) (length s)) (valueWord 𝓕 m z) _ (ap wrote (sym e) ∙ p .answer); opening = p .result; work = p .work }
 
   -- by the answer of encoding
@@ -76,11 +76,11 @@ module _ (𝓕 : PrimeField) where
           work = h .work ∙ ap (λ x. kept (x ⨾ k) s (replicate (length s) 0)) f;
         }
 
-    pub not-committed : {n : Refusal} {v : Verdict} → a ≡ Refused n → numbers v ≡ (number n, 0, 0) → CommitOpenVerify 𝓕 d c g t t' m z r us w o s v w' o s
+    pub not-committed : {n : Refusal} {v : Verdict} → a ≡ Refused n → numbers v ≡ due n → CommitOpenVerify 𝓕 d c g t t' m z r us w o s v w' o s
     not-committed {n} e h =
         let k = judgeWriting 𝓕 d c g t t' m z r (length o) (length s) in
         let honestly : List ℕ → Outcome (Option Check) = λ b. verification 𝓕 d c g t t' b z (valueWord 𝓕 m z) r us (openingWords 𝓕 g t t' m z r) in
-        let f : refused (number n) ≡ judgeEncoding 𝓕 d c g t t' m (length w) = ap outcome (sym e) ∙ p .answer in
+        let f : refused (due n) ≡ judgeEncoding 𝓕 d c g t t' m (length w) = ap outcome (sym e) ∙ p .answer in
         record {
           verdict = h ∙ ap (λ x. numbersOf (x ⨾ k ⨾ honestly (codeword 𝓕 d g t t' m))) f;
           block = p .result;

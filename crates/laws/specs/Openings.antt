@@ -20,13 +20,13 @@ use Rattle.basefold.specs.Written.{opening}
 use Rattle.basefold.specs.Honest.{Queries, honest-accepted, honest-fails}
 use Rattle.foldable.specs.Code.{encode, dim, Legal}
 use Rattle.foldable.specs.Encode.{length-encode}
-use Rattle.job.specs.Outcome.{done, _⨾_}
+use Rattle.job.specs.Outcome.{Numbers, done, _⨾_}
 use Rattle.job.specs.Limits.{blockSize}
 use Rattle.residue.specs.ScanLaws.{below-all}
 use Rattle.parameters.specs.Lent.{lent, Coding, codeword}
 use Rattle.open.specs.Laws.{length-opening}
 use Rattle.open.specs.Writing.{openingWords, valueWord}
-use Rattle.verdict.specs.Verdicts.{Numbers, numbersOf}
+use Rattle.verdict.specs.Verdicts.{numbersOf}
 use Rattle.verify.specs.Verifying.{maxQueries, openedLengths, openedWords, queriesOk, judgeVerifying, verification}
 use Rattle.laws.specs.Calls.{LegalRow}
 use Rattle.laws.specs.CallLaws.{coding-of, lengths-of}

@@ -30,7 +30,7 @@ use Rattle.basefold.specs.Written.{rounds, descend, blocks, opening}
 use mathlib.Core.Option.{some}
 use Rattle.basefold.specs.Checks.{sumCheck, finalCheck, baseCheck, foldCheck, firstFailure, checks, sumsFrom, foldHolds, foldsAt, foldsFrom, places, next}
 use Rattle.basefold.specs.CheckLaws.{same-true, same-false, first-holds, first-fails}
-use Rattle.job.specs.Outcome.{done}
+use Rattle.job.specs.Outcome.{Numbers, done}
 use Rattle.job.specs.Limits.{rateOk}
 use Rattle.job.specs.declared.Refusal.the-variants.{NoCodeword}
 use Rattle.job.specs.declared.Answer.the-variants.{Done, Refused}
@@ -41,7 +41,7 @@ use Rattle.table.specs.Depth.{exponentTo}
 use Rattle.parameters.specs.Lent.{lent, diagonal, codeword}
 use Rattle.parameters.specs.Parameters.{rowLengths, rowWords}
 use Rattle.decode.specs.Decoding.{judgeDecoding, decodeLengths, Decoded, settled, message, none}
-use Rattle.verdict.specs.Verdicts.{Numbers, numbersOf}
+use Rattle.verdict.specs.Verdicts.{numbersOf}
 use Rattle.verify.specs.Verifying.{verification, judgeVerifying, openedLengths, openedWords, queriesOk}
 use Rattle.laws.specs.Calls.{LegalRow, foldedLevel}
 use Rattle.laws.specs.Folds.{fold-law}

@@ -10,7 +10,7 @@ use Rattle.algebra.specs.Words.{Words, PrimeField}
 use Rattle.algebra.specs.WordLists.{Low, elements, toWords}
 use Rattle.basefold.specs.Layout.{openingSize}
 use Rattle.basefold.specs.Written.{opening}
-use Rattle.job.specs.Outcome.{Outcome, refused, done, number, _⨾_, kept}
+use Rattle.job.specs.Outcome.{Outcome, refused, done, _⨾_, kept, due}
 use Rattle.job.specs.Limits.{maxDepth, maxRate}
 use Rattle.multilinear.specs.Polynomial.{poly}
 use Rattle.residue.specs.declared.Residue.{Residue}
@@ -23,7 +23,7 @@ use Rattle.open.specs.declared.Written.the-variants.{Value, Refused}
 -- what an answer says: the value's word, or the refusal's number
 abbrev pub writtenOutcome : Written → Outcome ℕ
 writtenOutcome (Value v) = done v
-writtenOutcome (Refused r) = refused (number r)
+writtenOutcome (Refused r) = refused (due r)
 
 -- of the lengths of message, point and challenges
 unfoldable pub inputLengths : ℕ → ℕ → ℕ → ℕ → Bool

@@ -10,7 +10,7 @@ use borrow.Author.Tests.{eqb-true}
 use Rattle.algebra.specs.Words.{PrimeField}
 use Rattle.algebra.specs.Tests.{and-both, and-assoc}
 use Rattle.algebra.specs.WordLists.{Low}
-use Rattle.job.specs.Outcome.{Outcome, refused, done, require, _⨾_}
+use Rattle.job.specs.Outcome.{Numbers, Outcome, refused, done, require, _⨾_}
 use Rattle.job.specs.OutcomeLaws.{require-done, held, require-number, after-number}
 use Rattle.job.specs.Limits.{depthOk, rateOk, diagonalsSize}
 use Rattle.residue.specs.Scans.{allBelow, noneZero, allDiffer}
@@ -56,14 +56,14 @@ judge-guarded d c g t t' l w = by (depthOk d) (rateOk c) l
     by false b l = refl
 
 -- its refusals are 1 to 6
-pub judge-number : (Q : ℕ → Type 0) → ((k : ℕ) → 1 ≤ k → k ≤ 6 → Q k) → (d c : ℕ) (g t t' : List ℕ) (l w : Bool) {n : ℕ} → judgeRow d c g t t' l w ≡ refused n → Q n
+pub judge-number : (Q : ℕ → Type 0) → ((k : ℕ) → 1 ≤ k → k ≤ 6 → Q k) → (d c : ℕ) (g t t' : List ℕ) (l w : Bool) {n : Numbers} → judgeRow d c g t t' l w ≡ refused n → Q (n .0)
 judge-number Q q d c g t t' l w =
     after-number Q (limits d c) (after-number Q (require (depthOk d) 1) (is (depthOk d) 1 (omega arith) (omega arith)) (is (rateOk c) 2 (omega arith) (omega arith)))
     (after-number Q (require l 3) (is l 3 (omega arith) (omega arith))
     (after-number Q (require w 4) (is w 4 (omega arith) (omega arith))
     (after-number Q (require (noneZero g) 5) (is (noneZero g) 5 (omega arith) (omega arith)) (is (allDiffer t t') 6 (omega arith) (omega arith)))))
   where
-    is : (b : Bool) (k : ℕ) → 1 ≤ k → k ≤ 6 → {n : ℕ} → require b k ≡ refused n → Q n
+    is : (b : Bool) (k : ℕ) → 1 ≤ k → k ≤ 6 → {n : Numbers} → require b k ≡ refused n → Q (n .0)
     is b k lo hi e = require-number Q b k (q k lo hi) e
 
 pub within : (d c : ℕ) → done tt ≡ limits d c → (depthOk d ≡ true) × (rateOk c ≡ true)

@@ -8,7 +8,7 @@ use lib.ListN.{length}
 use Rattle.algebra.specs.Field.{Field}
 use Rattle.algebra.specs.Words.{Words, PrimeField}
 use Rattle.algebra.specs.WordLists.{Low, elements}
-use Rattle.job.specs.Outcome.{Outcome, refused, done, number, require, _⨾_}
+use Rattle.job.specs.Outcome.{Outcome, refused, done, require, _⨾_, due}
 use Rattle.job.specs.Limits.{depthOk}
 use Rattle.multilinear.specs.Polynomial.{poly}
 use Rattle.residue.specs.Scans.{allBelow}
@@ -18,7 +18,7 @@ use Rattle.polynomial.specs.declared.Evaluation.the-variants.{Value, Ref
 -- what an answer says: the value's word, or the refusal's number
 abbrev pub evaluationOutcome : Evaluation → Outcome ℕ
 evaluationOutcome (Value v) = done v
-evaluationOutcome (Refused r) = refused (number r)
+evaluationOutcome (Refused r) = refused (due r)
 
 -- of the lengths of message and point
 unfoldable pub evaluateLengths : ℕ → ℕ → ℕ → Bool

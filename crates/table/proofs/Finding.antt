@@ -12,7 +12,7 @@ use Rattle.algebra.specs.WordLists.{Low, elements, toWords, length-elements, le
 use Rattle.multilinear.specs.Table.{table, coefficients, length-table}
 use Rattle.job.specs.declared.Refusal.{Refusal}
 use Rattle.job.specs.declared.Answer.the-variants.{Done, Refused}
-use Rattle.job.specs.Outcome.{refused, done, number, kept}
+use Rattle.job.specs.Outcome.{refused, done, due, kept}
 use Rattle.residue.specs.Residues.{P, K}
 use Rattle.clearance.specs.Clearances.{inRange, residueOf, clearanceOf}
 use Rattle.clearance.specs.ClearanceLaws.{residue-lt}
@@ -70,7 +70,7 @@ module _ (t : List ℤ) (old : List ℕ) where
   pub coefficients-done : (new : List ℕ) → done tt ≡ judgeTable t (length old) → MessageOf t new → Coefficients t old new Done
   coefficients-done new e f = record { answer = e; message = subst (λ o. Leaves o old new (MessageOf t new)) e f }
 
-  pub coefficients-refused : (r : Refusal) → refused (number r) ≡ judgeTable t (length old) → Coefficients t old old (Refused r)
+  pub coefficients-refused : (r : Refusal) → refused (due r) ≡ judgeTable t (length old) → Coefficients t old old (Refused r)
   coefficients-refused r e = record { answer = e; message = subst (λ o. Leaves o old old (MessageOf t old)) e refl }
 
 module _ (m : List ℕ) (old : List ℤ) (work : List ℕ) where
@@ -82,7 +82,7 @@ module _ (m : List ℕ) (old : List ℤ) (work : List ℕ) where
     cleared = q ∙ ap (λ o. kept o work (replicate (length work) 0)) e;
   }
 
-  pub tables-refused : (r : Refusal) → refused (number r) ≡ judgeMessage m (length old) (length work) → Tables m old old work work (Refused r)
+  pub tables-refused : (r : Refusal) → refused (due r) ≡ judgeMessage m (length old) (length work) → Tables m old old work work (Refused r)
   tables-refused r e = record {
     answer = e;
     clearances = ap (λ o. kept o old (tableOf m)) e;

@@ -4,14 +4,13 @@ use mathlib.Core.List.{List}
 use Prim.Native.Nat.{ℕ}
 use lib.IntN.{ℤ}
 use Rattle.algebra.specs.Words.{PrimeField}
-use Rattle.job.specs.Outcome.{Outcome, refused, done, outcome}
+use Rattle.job.specs.Outcome.{Numbers, Outcome, refused, done, outcome}
 use Rattle.job.specs.declared.Answer.{Answer}
 use Rattle.code.specs.Encoding.{Encoded}
 use Rattle.decode.specs.Decoding.{Decoded}
 use Rattle.fold.specs.Job.{Folded}
 use Rattle.open.specs.Writing.{writtenOutcome as wrote, Wrote}
 use Rattle.open.specs.declared.Written.{Written}
-use Rattle.verdict.specs.Verdicts.{Numbers}
 use Rattle.polynomial.specs.Evaluation.{evaluationOutcome as evaluated, evaluation}
 use Rattle.polynomial.specs.declared.Evaluation.{Evaluation}
 use Rattle.clearance.specs.Clearances.{Meaning, free, contact, overlap}
@@ -19,13 +18,14 @@ use Rattle.table.specs.Jobs.{ToCoefficients, ToTable}
 use Rattle.tvarchula.specs.declared.answer.Reply.{Reply}
 use Rattle.tvarchula.specs.declared.ground.ReadingReply.{ReadingReply}
 
--- 0 where a job is done, else the refusal's number
-abbrev pub numberOf : {A : Type 0} → Outcome A → ℕ
-numberOf (refused n) = n
-numberOf (done a) = 0
+-- a number and its places
+abbrev pub triple : Numbers → Reply
+triple n = record { number = n .0; first = n .1; second = n .2 }
 
+-- 0 where a job is done, else the refusal's number and places
 abbrev pub reply : {A : Type 0} → Outcome A → Reply
-reply o = record { number = numberOf o; first = 0; second = 0 }
+reply (refused n) = triple n
+reply (done a) = triple (0, 0, 0)
 
 -- a single result: written only where the job is done
 abbrev pub given : Outcome ℕ → ℕ → ℕ
@@ -34,7 +34,7 @@ given (done v) old = v
 
 -- a reading as three numbers
 abbrev pub readingReply : Outcome Meaning → ReadingReply
-readingReply (refused n) = record { number = n; kind = 0; amount = 0 }
+readingReply (refused n) = record { number = n .0; kind = 0; amount = 0 }
 readingReply (done (free n)) = record { number = 0; kind = 1; amount = n }
 readingReply (done contact) = record { number = 0; kind = 3; amount = 0 }
 readingReply (done (overlap n)) = record { number = 0; kind = 2; amount = n }
@@ -51,14 +51,10 @@ pub record ToTableCall (m : List ℕ) (old new : List ℤ) (work left : List ℕ
   pub answer : r ≡ reply (outcome job)
   pub result : ToTable m old new work left job
 
--- a verdict's number and places
-abbrev pub triple : Numbers → Reply
-triple n = record { number = n .0; first = n .1; second = n .2 }
-
--- a single result, by the reply's number n: the value where it is 0, and else as it was
-pub data Single (answer : Outcome ℕ) (n old value : ℕ) : Type 0 where
-  written : n ≡ 0 → answer ≡ done value → Single answer n old value
-  left : (n ≡ 0 → ⊥) → answer ≡ refused n → value ≡ old → Single answer n old value
+-- a single result, by the reply: the value where its number is 0, and else as it was
+pub data Single (answer : Outcome ℕ) (r : Reply) (old value : ℕ) : Type 0 where
+  written : r .number ≡ 0 → answer ≡ done value → Single answer r old value
+  left : (r .number ≡ 0 → ⊥) → (n : Numbers) → r ≡ triple n → answer ≡ refused n → value ≡ old → Single answer r old value
 
 module _ (𝓕 : PrimeField) where
   pub record EncodeCall (d c : ℕ) (g t t' m old : List ℕ) (r : Reply) (out : List ℕ) : Type 0 where

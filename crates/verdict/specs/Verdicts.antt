@@ -2,7 +2,7 @@
 use mathlib.Core.Option.{Option, none, some}
 use Prim.Native.Nat.{ℕ}
 use Rattle.basefold.specs.Checks.{Check, sumCheck, finalCheck, baseCheck, foldCheck}
-use Rattle.job.specs.Outcome.{Outcome, refused, done, number}
+use Rattle.job.specs.Outcome.{Numbers, Outcome, refused, done, due}
 use Rattle.verdict.specs.declared.Failure.{Failure}
 use Rattle.verdict.specs.declared.Failure.the-variants.{Sum, Final, Base, Fold}
 use Rattle.verdict.specs.declared.Outcome.{Outcome as Result}
@@ -10,10 +10,6 @@ use Rattle.verdict.specs.declared.Outcome.the-variants.{Accepted, Reject
 use Rattle.verdict.specs.declared.Verdict.{Verdict}
 use Rattle.verdict.specs.declared.Found.{Found}
 use Rattle.verdict.specs.declared.Found.the-variants.{Nothing, First}
-
--- a number, and the places that go with it
-abbrev pub Numbers : Type 0
-Numbers = ℕ × ℕ × ℕ
 
 -- sum i; final; base j; fold, with the query's position and the level
 abbrev pub checkNumbers : Check → Numbers
@@ -24,7 +20,7 @@ checkNumbers (foldCheck q i) = (23, q, i)
 
 -- a refusal; no check fails; the first one that fails
 abbrev pub numbersOf : Outcome (Option Check) → Numbers
-numbersOf (refused n) = (n, 0, 0)
+numbersOf (refused n) = n
 numbersOf (done none) = (0, 0, 0)
 numbersOf (done (some c)) = checkNumbers c
 
@@ -42,7 +38,7 @@ found (First f) = some (check f)
 abbrev pub said : Result → Outcome (Option Check)
 said Accepted = done none
 said (Rejected f) = done (some (check f))
-said (Refused r) = refused (number r)
+said (Refused r) = refused (due r)
 
 -- the number and places of a verdict
 abbrev pub numbers : Verdict → Numbers

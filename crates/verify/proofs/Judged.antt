@@ -13,7 +13,7 @@ use Rattle.algebra.specs.Words.{Words, PrimeField}
 use Rattle.algebra.specs.WordLists.{elements}
 use Rattle.basefold.specs.Layout.{openingSize}
 use Rattle.basefold.specs.Checks.{Check, firstFailure, checks}
-use Rattle.job.specs.Outcome.{Outcome, refused, done, require, _⨾_}
+use Rattle.job.specs.Outcome.{Numbers, Outcome, refused, done, require, _⨾_}
 use Rattle.job.specs.OutcomeLaws.{require-done, held, both, after-refused, after-done}
 use Rattle.job.specs.Limits.{depthOk, rateOk, blockSize}
 use Rattle.job.specs.LimitLaws.{depth-most, rate-most}
@@ -122,7 +122,7 @@ module _ (𝓕 : PrimeField) where
 
   -- what is due: a refusal, or the first failure
   module _ (d c : ℕ) (g t t' w z : List ℕ) (y : ℕ) (r us o : List ℕ) where
-    pub refusal-due : {n : ℕ} → refused n ≡ judgeVerifying 𝓕 d c g t t' w z y r us o → refused n ≡ verification 𝓕 d c g t t' w z y r us o
+    pub refusal-due : {n : Numbers} → refused n ≡ judgeVerifying 𝓕 d c g t t' w z y r us o → refused n ≡ verification 𝓕 d c g t t' w z y r us o
     unfolding verification
     refusal-due e = after-refused _ e
 
