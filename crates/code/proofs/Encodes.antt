@@ -15,8 +15,8 @@ use Rattle.foldable.specs.Lift.{lift, lift-spread}
 use Rattle.job.specs.Outcome.{done}
 use Rattle.job.specs.OutcomeLaws.{require-done, both}
 use Rattle.job.specs.Limits.{blockSize}
-use Rattle.residue.specs.Scans.{allBelow}
-use Rattle.residue.specs.ScanLaws.{all-below}
+use Rattle.words.specs.Scans.{allBelow}
+use Rattle.words.specs.ScanLaws.{all-below}
 use Rattle.parameters.specs.Lent.{lent}
 use Rattle.parameters.specs.Parameters.{limits, rowLengths, rowWords}
 use Rattle.parameters.specs.ParameterLaws.{row-lengths, lent-coding}

@@ -10,7 +10,7 @@ use Rattle.algebra.specs.WordLists.{Low}
 use Rattle.job.specs.declared.Answer.{Answer}
 use Rattle.job.specs.Outcome.{Outcome, outcome, kept}
 use Rattle.job.specs.Limits.{blockSize}
-use Rattle.residue.specs.Scans.{allBelow}
+use Rattle.words.specs.Scans.{allBelow}
 use Rattle.parameters.specs.Lent.{codeword, Coding}
 use Rattle.parameters.specs.Parameters.{rowLengths, rowWords, judgeRow}
 

@@ -28,8 +28,8 @@ use Rattle.foldable.specs.OneColumn.{oneColumn, lift-column}
 use Rattle.job.specs.Limits.{maxMessage, blockSize}
 use Rattle.job.specs.LimitLaws.{power-most}
 use Rattle.residue.specs.declared.Residue.{Residue}
-use Rattle.residue.specs.Scans.{allSame}
-use Rattle.residue.specs.ScanLaws.{is-same}
+use Rattle.words.specs.Scans.{allSame}
+use Rattle.words.specs.ScanLaws.{is-same}
 use Rattle.parameters.specs.Lent.{lent, codeword}
 use Rattle.undo.specs.Steps.{DecodeInput, decoded}
 use Rattle.columns.specs.Steps.{lentColumn, ScaleLent, ColumnLent, MessageLent}

@@ -6,7 +6,7 @@ ghost use lib.ListN.{length, take};
 ghost use Rattle.algebra.specs.Words.{𝔽₁};
 ghost use Rattle.foldable.specs.Every.{every};
 ghost use Rattle.parameters.specs.Lent.{codeword};
-ghost use Rattle.residue.specs.Scans.{allSame};
+ghost use Rattle.words.specs.Scans.{allSame};
 ghost use Rattle.undo.specs.Steps.{DecodeInput, decoded};
 ghost use Rattle.columns.specs.Steps.{MessageLent};
 use residue::Residue;

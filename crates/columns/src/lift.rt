@@ -8,7 +8,7 @@ ghost use Rattle.foldable.specs.Every.{every};
 ghost use Rattle.foldable.specs.Lift.{lift as lifted};
 ghost use Rattle.job.specs.Limits.{maxDepth, maxRate, blockSize};
 ghost use Rattle.residue.specs.Residues.{F};
-ghost use Rattle.residue.specs.Scans.{allSame};
+ghost use Rattle.words.specs.Scans.{allSame};
 ghost use Rattle.columns.specs.Steps.{ColumnHalfIs, ColumnLent, lentColumn};
 use crate::places;
 

@@ -9,10 +9,10 @@ ghost use Rattle.code.specs.Steps.{times, crossed};
 ghost use Rattle.foldable.specs.Every.{every};
 ghost use Rattle.job.specs.Limits.{maxRate};
 ghost use Rattle.residue.specs.Residues.{elem};
-ghost use Rattle.residue.specs.Scans.{allSame};
+ghost use Rattle.words.specs.Scans.{allSame};
 ghost use Rattle.columns.specs.Steps.{ScaleLent, CrossLent};
 use residue::Residue;
-use residue::entry;
+use words::entry;
 
 // a times the first n words, behind them.
 pub fn scale_front(n: usize, a: Residue, w: &mut [u32])

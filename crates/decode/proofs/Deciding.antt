@@ -11,8 +11,8 @@ use Rattle.algebra.specs.WordLists.{Low, low-words, elements, toWords, length-e
 use Rattle.foldable.specs.Code.{encode, Codeword}
 use Rattle.foldable.specs.Decode.{decodes, length-decode}
 use Rattle.foldable.specs.Encode.{length-encode}
-use Rattle.residue.specs.Scans.{allSame}
-use Rattle.residue.specs.ScanLaws.{same-is, is-same}
+use Rattle.words.specs.Scans.{allSame}
+use Rattle.words.specs.ScanLaws.{same-is, is-same}
 use Rattle.parameters.specs.Lent.{lent, codeword}
 use Rattle.undo.specs.Steps.{DecodeInput, decoded}
 use Rattle.job.specs.declared.Answer.the-variants.{Done, Refused}

@@ -11,7 +11,7 @@ use Rattle.foldable.specs.Code.{Codeword}
 use Rattle.job.specs.declared.Answer.{Answer}
 use Rattle.job.specs.Outcome.{Numbers, Outcome, refused, done, outcome}
 use Rattle.job.specs.Limits.{blockSize}
-use Rattle.residue.specs.Scans.{allBelow}
+use Rattle.words.specs.Scans.{allBelow}
 use Rattle.parameters.specs.Lent.{lent, codeword}
 use Rattle.parameters.specs.Parameters.{rowLengths, rowWords, judgeRow}
 

@@ -22,8 +22,8 @@ use Rattle.job.specs.Outcome.{Numbers, Outcome, refused, done, outcome}
 use Rattle.job.specs.OutcomeLaws.{require-done, held, both, same-answer, named}
 use Rattle.job.specs.Limits.{maxDepth, blockSize, diagonalsSize}
 use Rattle.job.specs.LimitLaws.{rate-least, rate-most}
-use Rattle.residue.specs.Scans.{allBelow, noneZero, allDiffer}
-use Rattle.residue.specs.ScanLaws.{all-below, none-zero, all-differ}
+use Rattle.words.specs.Scans.{allBelow, noneZero, allDiffer}
+use Rattle.words.specs.ScanLaws.{all-below, none-zero, all-differ}
 use Rattle.parameters.specs.Lent.{lent, codeword}
 use Rattle.parameters.specs.Parameters.{limits, rowLengths, rowWords}
 use Rattle.parameters.specs.ParameterLaws.{judge-number, within, row-lengths, lent-coding}

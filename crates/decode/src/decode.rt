@@ -12,7 +12,6 @@ ghost use Rattle.decode.specs.Steps.{Found, Tried};
 use halves::same;
 use job::Answer;
 use job::Refusal;
-use residue::words;
 use undo::message;
 
 // From this rate on the codeword of half a message, and half as much again, find room behind the message.

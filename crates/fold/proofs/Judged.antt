@@ -17,8 +17,8 @@ use Rattle.job.specs.Limits.{maxDepth, maxRate, rateOk, blockSize}
 use Rattle.job.specs.LimitLaws.{rate-most}
 use Rattle.job.specs.Outcome.{Outcome, done, require, _⨾_}
 use Rattle.job.specs.OutcomeLaws.{require-done, held}
-use Rattle.residue.specs.Scans.{allBelow, allDiffer}
-use Rattle.residue.specs.ScanLaws.{all-below, all-differ}
+use Rattle.words.specs.Scans.{allBelow, allDiffer}
+use Rattle.words.specs.ScanLaws.{all-below, all-differ}
 use Rattle.inversion.specs.Inversion.{Diagonals}
 use Rattle.fold.specs.Job.{levelOk, foldLimits, lengthsOk, wordsOk, judgeFolding}
 

@@ -11,7 +11,7 @@ use Rattle.foldable.specs.Code.{foldAlong}
 use Rattle.job.specs.Limits.{maxDepth, rateOk, blockSize}
 use Rattle.job.specs.Outcome.{Outcome, require, _⨾_, kept, outcome}
 use Rattle.job.specs.declared.Answer.{Answer}
-use Rattle.residue.specs.Scans.{allBelow, allDiffer}
+use Rattle.words.specs.Scans.{allBelow, allDiffer}
 
 -- the upper level: at least 1
 unfoldable pub levelOk : ℕ → Bool

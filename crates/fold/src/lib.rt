@@ -8,14 +8,14 @@ ghost use Rattle.algebra.specs.Words.{𝔽₁};
 ghost use Rattle.algebra.specs.WordLists.{Low as LowWords};
 ghost use Rattle.job.specs.Outcome.{outcome};
 ghost use Rattle.residue.specs.Residues.{P, Low};
-ghost use Rattle.residue.specs.Scans.{allBelow, allDiffer};
+ghost use Rattle.words.specs.Scans.{allBelow, allDiffer};
 ghost use Rattle.inversion.specs.Inversion.{Diagonals};
 ghost use Rattle.fold.specs.Job.{levelOk, foldLimits, lengthsOk, judgeFolding, foldWords, Folded};
 use job::Answer;
 use job::Refusal;
 use residue::Residue;
-use residue::scan;
-use residue::scan::PairScan;
+use words::scan;
+use words::scan::PairScan;
 
 pub mod behind;
 mod lines;

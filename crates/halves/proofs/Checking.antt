@@ -16,7 +16,7 @@ use Rattle.foldable.specs.Unique.{encode-word}
 use Rattle.job.specs.Limits.{blockSize}
 use Rattle.residue.specs.declared.Residue.{Residue}
 use Rattle.residue.specs.Elements.{elem}
-use Rattle.residue.specs.Scans.{allSame}
+use Rattle.words.specs.Scans.{allSame}
 use Rattle.parameters.specs.Lent.{codeword}
 use Rattle.parameters.specs.LentLaws.{coding-below}
 use Rattle.code.specs.Steps.{times}

@@ -18,8 +18,8 @@ use Rattle.foldable.specs.Code.{encode, size}
 use Rattle.foldable.specs.Encode.{double, length-encode}
 use Rattle.foldable.specs.Peel.{peel, peel-encode}
 use Rattle.job.specs.Limits.{blockSize}
-use Rattle.residue.specs.Scans.{allSame}
-use Rattle.residue.specs.ScanLaws.{same-is, is-same}
+use Rattle.words.specs.Scans.{allSame}
+use Rattle.words.specs.ScanLaws.{same-is, is-same}
 use Rattle.parameters.specs.Lent.{lent, diagonal, codeword, Coding}
 use Rattle.parameters.specs.LentLaws.{coding-below, length-diagonal}
 use Rattle.halves_step.specs.Steps.{peeled, raised}

@@ -14,7 +14,7 @@ use Rattle.algebra.specs.Words.{PrimeField}
 use Rattle.foldable.specs.Encode.{double}
 use Rattle.job.specs.Limits.{maxDepth, maxRate, blockSize, diagonalsSize, maxBlock}
 use Rattle.job.specs.LimitLaws.{power-most, product-most}
-use Rattle.residue.specs.Scans.{allSame}
+use Rattle.words.specs.Scans.{allSame}
 use Rattle.parameters.specs.Lent.{diagonal, codeword, Coding}
 use Rattle.parameters.specs.LentLaws.{coding-below, length-diagonal, level-end}
 use Rattle.halves_step.specs.Steps.{peeled, raised, LentPeel, FrontPeel, Peeled, CodeLent, RightWritten}

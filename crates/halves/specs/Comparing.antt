@@ -7,7 +7,7 @@ use lib.ListN.{length, take}
 use Rattle.algebra.specs.Words.{PrimeField}
 use Rattle.algebra.specs.WordLists.{Low}
 use Rattle.job.specs.Limits.{maxDepth, maxRate, blockSize}
-use Rattle.residue.specs.Scans.{allSame}
+use Rattle.words.specs.Scans.{allSame}
 use Rattle.parameters.specs.Lent.{Coding, codeword}
 
 module _ (𝓕 : PrimeField) where

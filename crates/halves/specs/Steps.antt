@@ -11,7 +11,7 @@ use Rattle.algebra.specs.WordLists.{Low as LowWords, elements, toWords}
 use Rattle.job.specs.Limits.{maxDepth, maxRate, blockSize, diagonalsSize}
 use Rattle.residue.specs.declared.Residue.{Residue}
 use Rattle.residue.specs.Elements.{Low}
-use Rattle.residue.specs.Scans.{allSame}
+use Rattle.words.specs.Scans.{allSame}
 use Rattle.parameters.specs.Lent.{Coding, codeword}
 use Rattle.code.specs.Steps.{times}
 

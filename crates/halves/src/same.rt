@@ -10,7 +10,7 @@ ghost use Rattle.halves.specs.Comparing.{CompareInput, Compared};
 use halves_step::peel;
 use halves_step::right;
 use residue::Residue;
-use residue::entry;
+use words::entry;
 
 // Whether b is a times the row.
 fn word_same(a: Residue, g: &[u32], b: &[u32]) -> bool

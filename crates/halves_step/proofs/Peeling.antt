@@ -14,7 +14,7 @@ use Rattle.algebra.specs.Lists.{zip, length-zip, getD-zip}
 use Rattle.algebra.specs.Tests.{all₂-none, all₂-turn, all₂-end}
 use Rattle.algebra.specs.Words.{Words, PrimeField}
 use Rattle.algebra.specs.WordLists.{elements, toWords, length-elements, length-words, getD-elements, getD-words}
-use Rattle.residue.specs.Scans.{allSame}
+use Rattle.words.specs.Scans.{allSame}
 use Rattle.halves_step.specs.Steps.{peeled, raised, LentPeel, FrontPeel, Peeled}
 
 -- of a block in front of w, with the codeword behind it

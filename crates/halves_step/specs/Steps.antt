@@ -11,7 +11,7 @@ use Rattle.algebra.specs.WordLists.{Low, elements, toWords}
 use Rattle.foldable.specs.Lift.{spread}
 use Rattle.foldable.specs.Peel.{peel}
 use Rattle.job.specs.Limits.{maxDepth, blockSize}
-use Rattle.residue.specs.Scans.{allSame}
+use Rattle.words.specs.Scans.{allSame}
 use Rattle.parameters.specs.Lent.{Coding, codeword}
 
 module _ (𝓕 : PrimeField) where

@@ -4,7 +4,7 @@ ghost use Prim.Native.Nat.{_+_};
 ghost use lib.ListN.{length, take, drop};
 ghost use Rattle.algebra.specs.Words.{𝔽₁};
 ghost use Rattle.halves_step.specs.Steps.{LentPeel, FrontPeel, Peeled};
-use residue::entry;
+use words::entry;
 
 // Of a block that is lent, with r in out: out becomes u - t r. Whether that gives v.
 pub fn peel_lent(t: &[u32], t2: &[u32], block: &[u32], out: &mut [u32]) -> bool

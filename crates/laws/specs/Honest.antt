@@ -20,8 +20,8 @@ use Rattle.job.specs.declared.Answer.{Answer}
 use Rattle.job.specs.Outcome.{Numbers, Outcome, refused, done, due, outcome, kept, _⨾_}
 use Rattle.job.specs.OutcomeLaws.{require-done, both, same-refusal}
 use Rattle.job.specs.Limits.{blockSize}
-use Rattle.residue.specs.Scans.{allBelow}
-use Rattle.residue.specs.ScanLaws.{all-below}
+use Rattle.words.specs.Scans.{allBelow}
+use Rattle.words.specs.ScanLaws.{all-below}
 use Rattle.parameters.specs.Lent.{codeword}
 use Rattle.parameters.specs.Parameters.{limits, rowLengths, rowWords, legalRow}
 use Rattle.code.specs.Encoding.{encodeLengths, judgeEncoding, Encoded}

@@ -13,8 +13,8 @@ use Rattle.algebra.specs.WordLists.{Low, low-take, low-drop}
 use Rattle.job.specs.Outcome.{done}
 use Rattle.job.specs.OutcomeLaws.{require-done, held}
 use Rattle.job.specs.Limits.{maxDepth, depthOk, rateOk, blockSize, diagonalsSize}
-use Rattle.residue.specs.Scans.{allBelow, noneZero, allDiffer}
-use Rattle.residue.specs.ScanLaws.{below-all}
+use Rattle.words.specs.Scans.{allBelow, noneZero, allDiffer}
+use Rattle.words.specs.ScanLaws.{below-all}
 use Rattle.parameters.specs.Lent.{diagonal}
 use Rattle.parameters.specs.LentLaws.{length-diagonal, diagonals-mono}
 use Rattle.parameters.specs.Parameters.{limits, rowLengths, rowWords}

@@ -22,7 +22,7 @@ use Rattle.foldable.specs.Code.{encode, dim, Legal}
 use Rattle.foldable.specs.Encode.{length-encode}
 use Rattle.job.specs.Outcome.{Numbers, done, _⨾_}
 use Rattle.job.specs.Limits.{blockSize}
-use Rattle.residue.specs.ScanLaws.{below-all}
+use Rattle.words.specs.ScanLaws.{below-all}
 use Rattle.parameters.specs.Lent.{lent, Coding, codeword}
 use Rattle.open.specs.Laws.{length-opening}
 use Rattle.open.specs.Writing.{openingWords, valueWord}

@@ -17,8 +17,8 @@ use Rattle.job.specs.Outcome.{done}
 use Rattle.job.specs.OutcomeLaws.{require-done, both}
 use Rattle.job.specs.LimitLaws.{rate-most}
 use Rattle.polynomial.specs.Evaluation.{EvaluateInput}
-use Rattle.residue.specs.Scans.{allBelow}
-use Rattle.residue.specs.ScanLaws.{all-below}
+use Rattle.words.specs.Scans.{allBelow}
+use Rattle.words.specs.ScanLaws.{all-below}
 use Rattle.parameters.specs.Parameters.{limits, rowLengths, rowWords}
 use Rattle.parameters.specs.ParameterLaws.{within, row-lengths, lent-coding}
 use Rattle.open.specs.Writing.{inputLengths, bufferLengths, writeLengths, inputWords, judgeWriting, WriteInput}

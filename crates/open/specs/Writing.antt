@@ -14,7 +14,7 @@ use Rattle.job.specs.Outcome.{Outcome, refused, done, _⨾_, kept, due}
 use Rattle.job.specs.Limits.{maxDepth, maxRate}
 use Rattle.multilinear.specs.Polynomial.{poly}
 use Rattle.residue.specs.declared.Residue.{Residue}
-use Rattle.residue.specs.Scans.{allBelow}
+use Rattle.words.specs.Scans.{allBelow}
 use Rattle.parameters.specs.Lent.{lent, Coding}
 use Rattle.parameters.specs.Parameters.{rowLengths, rowWords, judgeRow}
 use Rattle.open.specs.declared.Written.{Written}

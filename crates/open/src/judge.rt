@@ -8,7 +8,7 @@ ghost use Rattle.job.specs.Limits.{maxDepth, maxRate};
 ghost use Rattle.parameters.specs.Parameters.{inLimits};
 ghost use Rattle.open.specs.Writing.{inputLengths, bufferLengths, writeLengths, inputWords, judgeWriting};
 use job::Answer;
-use residue::scan;
+use words::scan;
 
 // Of the lengths of message, point and challenges.
 fn inputs_ok(depth: u32, m: usize, z: usize, r: usize) -> bool

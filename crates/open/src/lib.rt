@@ -5,7 +5,6 @@ ghost use Rattle.open.specs.Writing.{WriteInput, WriteResult, Wrote};
 use job::Answer;
 use job::Refusal;
 use residue::Residue;
-use residue::words;
 
 mod judge;
 mod rounds;

@@ -13,8 +13,8 @@ use Rattle.algebra.specs.WordLists.{Low}
 use Rattle.job.specs.Outcome.{Numbers, Outcome, refused, done, require, _⨾_}
 use Rattle.job.specs.OutcomeLaws.{require-done, held, require-number, after-number}
 use Rattle.job.specs.Limits.{depthOk, rateOk, diagonalsSize}
-use Rattle.residue.specs.Scans.{allBelow, noneZero, allDiffer}
-use Rattle.residue.specs.ScanLaws.{all-below}
+use Rattle.words.specs.Scans.{allBelow, noneZero, allDiffer}
+use Rattle.words.specs.ScanLaws.{all-below}
 use Rattle.parameters.specs.Lent.{Coding}
 use Rattle.parameters.specs.LentLaws.{coding}
 use Rattle.parameters.specs.Parameters.{limits, inLimits, rowLengths, rowWords, legalRow, RowScanned, judgeFlags, judgeRow}

@@ -7,7 +7,7 @@ use lib.Dec.{eqb}
 use Rattle.algebra.specs.Words.{PrimeField}
 use Rattle.job.specs.Outcome.{Outcome, require, _⨾_}
 use Rattle.job.specs.Limits.{depthOk, rateOk, diagonalsSize}
-use Rattle.residue.specs.Scans.{allBelow, noneZero, allDiffer}
+use Rattle.words.specs.Scans.{allBelow, noneZero, allDiffer}
 
 abbrev pub limits : ℕ → ℕ → Outcome (Unit {0})
 limits d c = require (depthOk d) 1 ⨾ require (rateOk c) 2

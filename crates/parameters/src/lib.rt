@@ -3,11 +3,11 @@ ghost use mathlib.Core.Path.{_≡_};
 ghost use mathlib.Core.Bool.{_&&_};
 ghost use Rattle.algebra.specs.Words.{𝔽₁};
 ghost use Rattle.job.specs.Outcome.{outcome};
-ghost use Rattle.residue.specs.Scans.{allBelow, noneZero};
+ghost use Rattle.words.specs.Scans.{allBelow, noneZero};
 ghost use Rattle.parameters.specs.Parameters.{inLimits, rowLengths, RowScanned, judgeFlags};
 use job::Answer;
 use job::Refusal;
-use residue::scan;
+use words::scan;
 
 pub fn in_limits(depth: u32, rate: u32) -> bool
     ensures { λ r. ⌜ r ≡ inLimits depth rate ⌝ }

@@ -20,8 +20,8 @@ use Rattle.job.specs.OutcomeLaws.{require-done, held}
 use Rattle.job.specs.Limits.{depthOk}
 use Rattle.multilinear.specs.Polynomial.{monomial, form, poly, poly-top}
 use Rattle.residue.specs.ResidueLaws.{stands}
-use Rattle.residue.specs.Scans.{allBelow}
-use Rattle.residue.specs.ScanLaws.{all-below}
+use Rattle.words.specs.Scans.{allBelow}
+use Rattle.words.specs.ScanLaws.{all-below}
 use Rattle.residue.specs.Sums.{Lent, inner}
 use Rattle.polynomial.specs.Evaluation.{EvaluateInput, evaluateLengths, judgeEvaluating}
 use Rattle.polynomial.specs.EvaluationLaws.{lower, half-is, length-lower, rest}

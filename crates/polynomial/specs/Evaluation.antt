@@ -11,7 +11,7 @@ use Rattle.algebra.specs.WordLists.{Low, elements}
 use Rattle.job.specs.Outcome.{Outcome, refused, done, require, _⨾_, due}
 use Rattle.job.specs.Limits.{depthOk}
 use Rattle.multilinear.specs.Polynomial.{poly}
-use Rattle.residue.specs.Scans.{allBelow}
+use Rattle.words.specs.Scans.{allBelow}
 use Rattle.polynomial.specs.declared.Evaluation.{Evaluation}
 use Rattle.polynomial.specs.declared.Evaluation.the-variants.{Value, Refused}
 

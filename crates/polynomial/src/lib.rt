@@ -7,14 +7,14 @@ ghost use Rattle.job.specs.Outcome.{outcome};
 ghost use Rattle.job.specs.Limits.{depthOk};
 ghost use Rattle.multilinear.specs.Polynomial.{poly};
 ghost use Rattle.residue.specs.Residues.{K, word};
-ghost use Rattle.residue.specs.Scans.{allBelow};
+ghost use Rattle.words.specs.Scans.{allBelow};
 ghost use Rattle.polynomial.specs.Evaluation.{EvaluateInput, evaluateLengths, judgeEvaluating, evaluation, evaluationOutcome};
 ghost use Rattle.polynomial.specs.Monomials.{Monomials};
 use job::Answer;
 use job::Refusal;
 use residue::Residue;
-use residue::scan;
 use residue::sums;
+use words::scan;
 
 pub mod eq;
 mod monomials;

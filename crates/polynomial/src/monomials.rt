@@ -5,8 +5,8 @@ ghost use Rattle.algebra.specs.Words.{𝔽₁};
 ghost use Rattle.algebra.specs.WordLists.{Low};
 ghost use Rattle.residue.specs.Residues.{P};
 ghost use Rattle.polynomial.specs.Monomials.{Monomials, Extensible, Extended};
-use residue::entry;
-use residue::scan;
+use words::entry;
+use words::scan;
 
 // How many variables are low, where there are as many: their monomials fill 64 words.
 pub const LOW: usize = 6;

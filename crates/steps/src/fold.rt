@@ -4,7 +4,7 @@ ghost use Rattle.algebra.specs.Words.{𝔽₁};
 ghost use Rattle.residue.specs.Residues.{elem};
 ghost use Rattle.steps.specs.Steps.{FoldInput, foldedFront};
 use residue::Residue;
-use residue::entry;
+use words::entry;
 
 // The front half of m becomes left + a right.
 pub fn fold(a: Residue, m: &mut [u32])

@@ -11,7 +11,6 @@ ghost use Rattle.parameters.specs.Lent.{codeword};
 ghost use Rattle.steps.specs.Steps.{sentWords, GiveRoundInput, TakeChallengeInput, TakeChallengeResult, GiveBlockInput};
 use code::encode;
 use residue::Residue;
-use residue::words;
 
 mod fold;
 mod send;

@@ -13,7 +13,7 @@ use Rattle.multilinear.specs.Table.{table}
 use Rattle.job.specs.declared.Answer.{Answer}
 use Rattle.job.specs.Outcome.{Outcome, refused, done, require, _⨾_, outcome, kept}
 use Rattle.residue.specs.Residues.{P, K, el}
-use Rattle.residue.specs.Scans.{allBelow}
+use Rattle.words.specs.Scans.{allBelow}
 use Rattle.clearance.specs.Clearances.{inRange, residueOf, clearanceOf}
 use Rattle.table.specs.Depth.{isPower, exponent}
 

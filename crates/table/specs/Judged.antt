@@ -11,7 +11,7 @@ use Rattle.algebra.specs.Words.{𝔽₁}
 use Rattle.algebra.specs.Tests.{all, and-both}
 use Rattle.job.specs.Outcome.{done}
 use Rattle.job.specs.OutcomeLaws.{pass, holds, require-done, held}
-use Rattle.residue.specs.Scans.{allBelow}
+use Rattle.words.specs.Scans.{allBelow}
 use Rattle.clearance.specs.Clearances.{inRange}
 use Rattle.table.specs.Depth.{isPower}
 use Rattle.table.specs.Jobs.{judgeTable, judgeMessage}

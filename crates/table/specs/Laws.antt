@@ -12,7 +12,7 @@ use Rattle.multilinear.specs.Table.{table, coefficients, length-table, length-c
 use Rattle.job.specs.declared.Answer.{Answer}
 use Rattle.job.specs.Outcome.{Outcome, done, outcome, kept}
 use Rattle.residue.specs.Residues.{P, K, Element, el, word}
-use Rattle.residue.specs.ScanLaws.{all-below, below-all}
+use Rattle.words.specs.ScanLaws.{all-below, below-all}
 use Rattle.clearance.specs.Clearances.{inRange, residueOf, clearanceOf}
 use Rattle.clearance.specs.ClearanceLaws.{residue-lt, clearance-residue, clearance-range, residue-clearance}
 use Rattle.table.specs.Depth.{isPower, exponent}

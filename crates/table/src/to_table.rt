@@ -13,8 +13,7 @@ use crate::transform::Way;
 use clearance::slices;
 use job::Answer;
 use job::Refusal;
-use residue::scan;
-use residue::words;
+use words::scan;
 
 // The tests are made before any refusal, which costs a refused call one scan.
 fn judge(message: &[u32], table: usize, work: usize) -> Answer

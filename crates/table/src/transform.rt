@@ -6,7 +6,7 @@ ghost use Rattle.algebra.specs.Words.{𝔽₁};
 ghost use Rattle.algebra.specs.WordLists.{Low, elements, toWords};
 ghost use Rattle.residue.specs.Residues.{P, word, el};
 ghost use Rattle.table.specs.Passes.{across, crossed, blocks, passes};
-use residue::entry;
+use words::entry;
 
 pub enum Way {
     ToCoefficients,

@@ -5,7 +5,7 @@ ghost use Rattle.algebra.specs.Words.{𝔽₁};
 ghost use Rattle.job.specs.Limits.{maxDepth, maxRate};
 ghost use Rattle.undo.specs.Steps.{LevelLent, uncrossed, ColumnHalfIs, ColumnLent, ColumnUndone};
 use residue::Residue;
-use residue::entry;
+use words::entry;
 
 // At each place the line through the words u and v of the two halves: its value at 0 instead of u, its slope instead of v.
 fn uncross(n: usize, a: usize, c: usize, t: &[u32], w: &mut [u32])

@@ -18,8 +18,8 @@ use Rattle.job.specs.OutcomeLaws.{require-done, held, both, after-refused, afte
 use Rattle.job.specs.Limits.{depthOk, rateOk, blockSize}
 use Rattle.job.specs.LimitLaws.{depth-most, rate-most}
 use Rattle.residue.specs.Elements.{elem}
-use Rattle.residue.specs.Scans.{allBelow}
-use Rattle.residue.specs.ScanLaws.{all-below}
+use Rattle.words.specs.Scans.{allBelow}
+use Rattle.words.specs.ScanLaws.{all-below}
 use Rattle.residue.specs.declared.Residue.{Residue}
 use Rattle.parameters.specs.Lent.{lent}
 use Rattle.parameters.specs.Parameters.{limits, inLimits, rowLengths, rowWords, legalRow, judgeRow}

@@ -12,7 +12,7 @@ use Rattle.basefold.specs.Layout.{openingSize}
 use Rattle.basefold.specs.Checks.{Check, firstFailure, checks}
 use Rattle.job.specs.Outcome.{Outcome, done, require, _⨾_}
 use Rattle.job.specs.Limits.{blockSize}
-use Rattle.residue.specs.Scans.{allBelow}
+use Rattle.words.specs.Scans.{allBelow}
 use Rattle.parameters.specs.Lent.{lent}
 use Rattle.parameters.specs.Parameters.{rowLengths, rowWords, judgeRow}
 

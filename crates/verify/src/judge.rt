@@ -9,7 +9,7 @@ use crate::queries;
 use job::Answer;
 use job::Refusal;
 use residue::Residue;
-use residue::scan;
+use words::scan;
 
 // Whether depth and rate are legal and g, t, t2, block, z, r and opening have the lengths that they give.
 fn lengths_ok(

@@ -8,9 +8,9 @@ ghost use Rattle.residue.specs.Residues.{elem};
 ghost use Rattle.verdict.specs.Verdicts.{found};
 ghost use Rattle.walks.specs.Steps.{BaseInput, baseAt};
 use residue::Residue;
-use residue::entry;
 use verdict::Failure;
 use verdict::Found;
+use words::entry;
 
 pub fn bases(v: Residue, g: &[u32], bottom: &[u32]) -> Found
     requires { ⌜ BaseInput 𝔽₁ v (now g) (now bottom) ⌝ }

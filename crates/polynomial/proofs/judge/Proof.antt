@@ -7,7 +7,7 @@ use Rattle.algebra.specs.Words.{𝔽₁}
 use Rattle.job.specs.Limits.{depthOk}
 use Rattle.job.specs.Outcome.{require}
 use Rattle.job.specs.OutcomeLaws.{link, last, guarded}
-use Rattle.residue.specs.Scans.{allBelow}
+use Rattle.words.specs.Scans.{allBelow}
 use Rattle.polynomial.specs.Evaluation.{evaluateLengths, judgeEvaluating}
 use Rattle.polynomial.proofs.judge.Statement.{statement}
 use Rattle.polynomial.proofs.judge.Tie as tie

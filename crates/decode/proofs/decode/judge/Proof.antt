@@ -1,6 +1,6 @@
 use lib.ListN.{length}
 use Rattle.algebra.specs.Words.{𝔽₁}
-use Rattle.residue.specs.Scans.{allBelow}
+use Rattle.words.specs.Scans.{allBelow}
 use Rattle.parameters.specs.ParameterLaws.{judged-by}
 use Rattle.decode.specs.Decoding.{decodeLengths, judgeDecoding}
 use borrow.Author.Needs.{needs}

@@ -4,7 +4,7 @@ use lib.ListN.{length}
 use borrow.Author.Needs.{needs}
 use Rattle.algebra.specs.Words.{𝔽₁}
 use Rattle.job.specs.Outcome.{done, outcome}
-use Rattle.residue.specs.ScanLaws.{all-below}
+use Rattle.words.specs.ScanLaws.{all-below}
 use Rattle.table.specs.Jobs.{judgeMessage}
 use Rattle.table.specs.Judged.{message-passed}
 use Rattle.table.proofs.Finding.{tables-done, tables-refused}
