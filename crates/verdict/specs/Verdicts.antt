@@ -1,6 +1,5 @@
 -- The number of each verdict, and the places that it names. Definitions only. Assumes nothing.
 use mathlib.Core.Option.{Option, none, some}
-use Prim.Native.Nat.{ℕ}
 use Rattle.basefold.specs.Checks.{Check, sumCheck, finalCheck, baseCheck, foldCheck}
 use Rattle.job.specs.Outcome.{Numbers, Outcome, refused, done, due}
 use Rattle.verdict.specs.declared.Failure.{Failure}

@@ -1,0 +1,2 @@
+-- Loops   one query after the other, and one sibling of two
+pub mod Loops
