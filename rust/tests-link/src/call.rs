@@ -199,6 +199,19 @@ impl Call {
         }
         self.note.push_str(note);
     }
+
+    /// Bytes of all slices that the call is lent. Single words are no slices.
+    pub fn bytes(&self) -> usize {
+        let read = self.lent.words.iter();
+        let slices = read.filter(|(input, _)| !input.is_single());
+        let read: usize = slices.map(|(_, words)| size_of_val(&words[..])).sum();
+        let table = self.lent.table.as_deref().map_or(0, size_of_val);
+        let words = [&self.out.result, &self.out.work];
+        let words = words.into_iter().flatten();
+        let written: usize = words.map(|buffer| size_of_val(buffer.lent())).sum();
+        let back = self.out.table.as_ref();
+        read + table + written + back.map_or(0, |buffer| size_of_val(buffer.lent()))
+    }
 }
 
 impl fmt::Display for Call {

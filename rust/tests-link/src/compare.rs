@@ -1,7 +1,7 @@
 //! Runs one call on two implementations and compares everything.
 
 use crate::buffer::Buffer;
-use crate::call::{Call, Job};
+use crate::call::{Call, Job, Out};
 use crate::tally::Tally;
 use std::fmt;
 use tvarchula_reference::Answer;
@@ -45,10 +45,9 @@ impl Comparison {
 
     /// Runs a call on both. The call itself is not changed.
     pub fn check(&mut self, call: &Call) -> Result<Answer, Difference> {
-        let (mut left, mut right) = (call.clone(), call.clone());
-        let answers = [(self.left)(&mut left), (self.right)(&mut right)];
-        let fault = difference(answers, &left, &right)
-            .or_else(|| fault(call, answers[0], &left))
+        let (left, right) = (Ran::of(self.left, call), Ran::of(self.right, call));
+        let fault = difference(&left, &right)
+            .or_else(|| fault(call, &left))
             .map(|what| Difference {
                 call: Box::new(call.clone()),
                 what,
@@ -56,17 +55,37 @@ impl Comparison {
         if let Some(fault) = fault {
             return Err(fault);
         }
-        self.tally.count(call.job, answers[0]);
-        Ok(answers[0])
+        self.tally.count(call.job, left.answer);
+        Ok(left.answer)
     }
 }
 
-/// Where two calls differ after they ran.
-fn difference(answers: [Answer; 2], left: &Call, right: &Call) -> Option<String> {
-    if answers[0] != answers[1] {
-        return Some(format!("answers {} and {}", answers[0], answers[1]));
+/// What one implementation made of a call.
+struct Ran {
+    answer: Answer,
+    /// Whether what is only read was left as it was. Its copy is not kept: it may be large.
+    unchanged: bool,
+    out: Out,
+}
+
+impl Ran {
+    fn of(runner: Runner, call: &Call) -> Ran {
+        let mut copy = call.clone();
+        let answer = runner(&mut copy);
+        Ran {
+            answer,
+            unchanged: copy.lent == call.lent,
+            out: copy.out,
+        }
     }
-    if left.lent != right.lent {
+}
+
+/// Where two implementations differ, or one changed what is only read.
+fn difference(left: &Ran, right: &Ran) -> Option<String> {
+    if left.answer != right.answer {
+        return Some(format!("answers {} and {}", left.answer, right.answer));
+    }
+    if !(left.unchanged && right.unchanged) {
         return Some("a slice that is only read was changed".to_string());
     }
     let (a, b) = (&left.out, &right.out);
@@ -89,8 +108,9 @@ where
 }
 
 /// What no job may do, whatever the two sides agree on: a number that is not the job's, a place
-/// where none is named, a changed input or result after a refusal, a wrong work buffer.
-fn fault(before: &Call, answer: Answer, after: &Call) -> Option<String> {
+/// where none is named, a changed result after a refusal, a wrong work buffer.
+fn fault(before: &Call, after: &Ran) -> Option<String> {
+    let answer = after.answer;
     let number = answer.number;
     let places = match (before.job, number) {
         (Job::ReadClearance, 0) | (_, 23) => true,
@@ -107,10 +127,38 @@ fn fault(before: &Call, answer: Answer, after: &Call) -> Option<String> {
     let rules = [
         (before.job.numbers().contains(&number), "a foreign number"),
         (places, "a place where none is named"),
-        (before.lent == after.lent, "a changed input"),
         (number == 0 || results, "a changed result after a refusal"),
         (work, "a wrong work buffer"),
     ];
     let broken = rules.iter().find(|(holds, _)| !holds)?;
     Some(format!("both answer {answer}, but: {}", broken.1))
+}
+
+#[cfg(test)]
+mod tests {
+    use super::*;
+    use crate::call::Input;
+    use crate::good::{formed, Shape};
+    use crate::run;
+    use tvarchula_reference::sample::Rng;
+    use tvarchula_reference::Reference;
+
+    #[test]
+    fn a_changed_input_is_a_difference_even_if_both_change_it() {
+        fn changes(call: &mut Call) -> Answer {
+            let answer = run::any::<Reference>(call);
+            call.lent.words_mut(Input::Z)[0] ^= 1;
+            answer
+        }
+        let call = formed(Job::Evaluate, Shape::random(3, 2), &mut Rng::new(1));
+        for sides in [
+            [run::any::<Reference>, changes as Runner],
+            [changes, run::any::<Reference>],
+            [changes, changes],
+        ] {
+            let found = Comparison::new(sides[0], sides[1]).check(&call);
+            let what = found.expect_err("an input was changed").what;
+            assert_eq!(what, "a slice that is only read was changed");
+        }
+    }
 }

@@ -5,7 +5,7 @@ use crate::call::{Call, Input, Job};
 use crate::run;
 use tvarchula_reference::clearance::from_residue;
 use tvarchula_reference::sample::{Rng, Style, STYLES};
-use tvarchula_reference::sizes::Sizes;
+use tvarchula_reference::sizes::{Sizes, MAX_QUERIES};
 use tvarchula_reference::{Answer, CodeJobs, Reference};
 
 /// Sizes and styles of a call.
@@ -158,6 +158,27 @@ pub fn queries(sizes: &Sizes, rng: &mut Rng) -> Vec<u32> {
         _ => rng.below(below),
     };
     (0..count).map(place).map(|place| place as u32).collect()
+}
+
+/// As many different queries as are legal, at most 256: the ends, the starts and ends of the second
+/// halves, and any others.
+pub fn most_queries(sizes: &Sizes, rng: &mut Rng) -> Vec<u32> {
+    if sizes.depth == 0 {
+        return Vec::new();
+    }
+    let below = sizes.block(sizes.depth - 1);
+    let starts = (0..sizes.depth).map(|level| sizes.block(level));
+    let edges = starts.flat_map(|start| [start - 1, start % below]);
+    let count = below.min(MAX_QUERIES);
+    let mut queries: Vec<u32> = Vec::with_capacity(count);
+    let mut places = edges.chain(std::iter::repeat_with(|| rng.below(below)));
+    while queries.len() < count {
+        let place = places.next().expect("there is always another") as u32;
+        if !queries.contains(&place) {
+            queries.push(place);
+        }
+    }
+    queries
 }
 
 fn make_codeword(call: &mut Call, shape: Shape, rng: &mut Rng) {

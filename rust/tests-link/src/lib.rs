@@ -10,6 +10,7 @@ pub mod compare;
 pub mod damage;
 pub mod forge;
 pub mod good;
+pub mod large;
 #[cfg(any(feature = "ground", feature = "code", feature = "opening"))]
 pub mod linked;
 pub mod run;

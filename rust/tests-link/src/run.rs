@@ -3,6 +3,15 @@
 use crate::call::{Call, Input, Job};
 use tvarchula_reference::{Answer, CodeJobs, GroundJobs, OpeningJobs};
 
+/// Runs a call of any group.
+pub fn any<J: GroundJobs + CodeJobs + OpeningJobs>(call: &mut Call) -> Answer {
+    match call.job {
+        Job::Encode | Job::Decode | Job::Fold => code::<J>(call),
+        Job::WriteOpening | Job::VerifyOpening => opening::<J>(call),
+        _ => ground::<J>(call),
+    }
+}
+
 /// Runs a call of the ground group. A reading is shown as its number, kind and amount.
 pub fn ground<J: GroundJobs>(call: &mut Call) -> Answer {
     let (lent, out) = (&call.lent, call.out.parts());

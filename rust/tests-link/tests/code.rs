@@ -31,6 +31,11 @@ fn largest() {
 }
 
 #[test]
+fn deep() {
+    compared("code once deep, library with reference", sweep::code::deep);
+}
+
+#[test]
 fn numbers_of_the_order() {
     numbers::code::<Linked>();
 }

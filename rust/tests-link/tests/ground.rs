@@ -31,6 +31,14 @@ fn largest() {
 }
 
 #[test]
+fn deep() {
+    compared(
+        "ground once deep, library with reference",
+        sweep::ground::deep,
+    );
+}
+
+#[test]
 fn numbers_of_the_order() {
     numbers::ground::<Linked>();
 }

@@ -31,6 +31,14 @@ fn largest() {
 }
 
 #[test]
+fn deep() {
+    compared(
+        "opening once deep, library with reference",
+        sweep::opening::deep,
+    );
+}
+
+#[test]
 fn numbers_of_the_order() {
     numbers::opening::<Linked>();
 }

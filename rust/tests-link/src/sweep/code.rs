@@ -1,6 +1,6 @@
 //! Encoding, decoding, folding.
 
-use super::{good, illegal_sizes, pairs, random, singles, Swept};
+use super::{good, illegal_sizes, once_deep, pairs, random, singles, Swept};
 use crate::call::{Call, Input, Job};
 use crate::compare::Comparison;
 use crate::damage::{moved, moved_back};
@@ -46,6 +46,11 @@ pub fn largest(c: &mut Comparison) -> Swept {
         }
     }
     Ok(())
+}
+
+/// The deepest calls of every run.
+pub fn deep(c: &mut Comparison) -> Swept {
+    once_deep(c, &ALL, &mut Rng::new(202))
 }
 
 /// All depths 0 to 12 (levels 1 to 12) with all rates, good and with some damage.

@@ -1,6 +1,6 @@
 //! Readings, tables and evaluation.
 
-use super::{good, illegal_sizes, pairs, random, singles, Swept};
+use super::{good, illegal_sizes, once_deep, pairs, random, singles, Swept};
 use crate::buffer::Buffer;
 use crate::call::{Call, Input, Job};
 use crate::compare::Comparison;
@@ -39,6 +39,11 @@ pub fn largest(c: &mut Comparison) -> Swept {
         singles(c, job, Shape::random(16, 2), &mut rng)?;
     }
     Ok(())
+}
+
+/// The deepest calls of every run.
+pub fn deep(c: &mut Comparison) -> Swept {
+    once_deep(c, &ALL, &mut Rng::new(102))
 }
 
 /// Words around every edge, and any words.

@@ -9,10 +9,27 @@ use crate::compare::{Comparison, Difference};
 use crate::damage::{self, Damage};
 use crate::good::{self, Shape};
 use tvarchula_reference::sample::Rng;
+use tvarchula_reference::sizes::MAX_DEPTH;
 use tvarchula_reference::Answer;
 
 /// What a sweep returns: the first difference, if any.
 pub type Swept = Result<(), Difference>;
+
+/// How deep every run goes once for each job: 18, or the largest depth while that is less. For what is
+/// above it there is [`crate::large`].
+const DEEP: usize = if MAX_DEPTH < 18 {
+    MAX_DEPTH as usize
+} else {
+    18
+};
+
+/// A good call of each job at that depth and the smallest rate.
+fn once_deep(c: &mut Comparison, jobs: &[Job], rng: &mut Rng) -> Swept {
+    for &job in jobs {
+        good(c, job, Shape::random(DEEP, 2), rng)?;
+    }
+    Ok(())
+}
 
 /// A good call must be done, whoever runs it.
 fn good(c: &mut Comparison, job: Job, shape: Shape, rng: &mut Rng) -> Result<Call, Difference> {

@@ -1,6 +1,6 @@
 //! Writing and verifying openings.
 
-use super::{damaged, good, illegal_sizes, pairs, random, singles, Swept};
+use super::{damaged, good, illegal_sizes, once_deep, pairs, random, singles, Swept};
 use crate::call::{Call, Input, Job};
 use crate::compare::Comparison;
 use crate::damage::{moved, moved_back, Damage, Place};
@@ -8,6 +8,7 @@ use crate::forge;
 use crate::good::{self as calls, Shape};
 use tvarchula_reference::sample::{Rng, STYLES};
 
+const ALL: [Job; 2] = [Job::WriteOpening, Job::VerifyOpening];
 const SMALL: [(usize, usize); 8] = [
     (0, 2),
     (0, 5),
@@ -67,7 +68,7 @@ fn common(c: &mut Comparison, job: Job, scale: usize, rng: &mut Rng) -> Swept {
 pub fn largest(c: &mut Comparison) -> Swept {
     let mut rng = Rng::new(302);
     for (depth, rate) in [(11, 7), (12, 2), (13, 3), (14, 2), (15, 2)] {
-        for job in [Job::WriteOpening, Job::VerifyOpening] {
+        for job in ALL {
             good(c, job, Shape::any(depth, rate, &mut rng), &mut rng)?;
         }
     }
@@ -86,6 +87,11 @@ pub fn largest(c: &mut Comparison) -> Swept {
     }
     let call = forge::claim(Shape::random(16, 16), 7, true, &mut rng);
     c.check(&call).map(drop)
+}
+
+/// The deepest calls of every run.
+pub fn deep(c: &mut Comparison) -> Swept {
+    once_deep(c, &ALL, &mut Rng::new(303))
 }
 
 /// At small sizes every word of every input moved either way, alone: the same verdict and place.

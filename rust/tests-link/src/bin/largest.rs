@@ -1,0 +1,59 @@
+//! Compares the linked library with the reference at the largest depth and tells what each call took.
+//!
+//! `--depths 14,16` names other depths, each 1 to the largest, and then shows how the times grow;
+//! `--rates 2,8,16` the rates. Times are those of the library's call by the wall clock.
+
+use std::ops::RangeInclusive;
+use std::process::ExitCode;
+use tvarchula_compare::large::{growth, run, Line, HEADS};
+use tvarchula_compare::linked::Linked;
+use tvarchula_compare::run::any;
+use tvarchula_reference::Reference;
+use tvarchula_sys::{TV_MAX_DEPTH, TV_MAX_RATE, TV_MIN_RATE};
+
+const USAGE: &str = "usage: largest [--depths 14,16] [--rates 2,8,16]";
+
+fn main() -> ExitCode {
+    let Some([depths, rates]) = options(std::env::args().skip(1)) else {
+        eprintln!("{USAGE}");
+        return ExitCode::FAILURE;
+    };
+    println!("{HEADS}");
+    let mut lines = Vec::new();
+    let mut tell = |line: &Line| {
+        println!("{line}");
+        lines.push(*line);
+    };
+    let sides = [any::<Linked>, any::<Reference>];
+    if let Err(difference) = run(sides, &depths, &rates, &mut tell) {
+        eprintln!("library and reference differ:\n{difference}");
+        return ExitCode::FAILURE;
+    }
+    for growth in growth(&lines) {
+        println!("{growth}");
+    }
+    ExitCode::SUCCESS
+}
+
+/// Depths and rates.
+fn options(mut arguments: impl Iterator<Item = String>) -> Option<[Vec<usize>; 2]> {
+    let mut depths = vec![TV_MAX_DEPTH as usize];
+    let mut rates = vec![2, 8, 16];
+    while let Some(argument) = arguments.next() {
+        match argument.as_str() {
+            "--depth" | "--depths" => depths = numbers(&arguments.next()?, 1..=TV_MAX_DEPTH)?,
+            "--rate" | "--rates" => rates = numbers(&arguments.next()?, TV_MIN_RATE..=TV_MAX_RATE)?,
+            _ => return None,
+        }
+    }
+    Some([depths, rates])
+}
+
+/// Numbers between commas, each legal.
+fn numbers(text: &str, legal: RangeInclusive<u32>) -> Option<Vec<usize>> {
+    let number = |part: &str| {
+        let number = part.parse().ok().filter(|number| legal.contains(number));
+        number.map(|number| number as usize)
+    };
+    text.split(',').map(number).collect()
+}

@@ -1,0 +1,315 @@
+//! Calls of a large size, one after another: each is compared like any other call, and its time, its
+//! lent memory and its stack are told.
+//!
+//! At depth 20 and rate 16 a block, an opening and each diagonal have 64 MB. What one call reads is
+//! moved to the next, so that few copies are alive: the call, the copy that an implementation runs on,
+//! what the other one wrote, and the reference's own. Decoding has the most, 260 MB lent: two of
+//! those, another result and work buffer, the residues of all that is read, the inverses, and the
+//! halves of the block that it encodes again; 1.1 GB in all, as was seen with the reference on both
+//! sides. The library allocates nothing.
+
+mod case;
+mod growth;
+pub mod stack;
+
+pub use case::Case;
+pub use growth::{growth, Growth};
+
+use crate::call::{Call, Input, Job};
+use crate::compare::{Comparison, Difference, Runner};
+use crate::damage::{moved, moved_back};
+use crate::good::{formed, most_queries, Shape};
+use std::collections::BTreeMap;
+use std::fmt;
+use std::time::{Duration, Instant};
+use tvarchula_reference::sample::Rng;
+use tvarchula_reference::Answer;
+
+/// A call that takes longer is timed once, others three times.
+const LONG: Duration = Duration::from_secs(2);
+
+/// What one call took.
+#[derive(Clone, Copy, Debug)]
+pub struct Line {
+    /// What was called.
+    pub case: Case,
+    /// At which depth; for folding the upper level.
+    pub depth: usize,
+    /// At which rate, where the job has one.
+    pub rate: Option<usize>,
+    /// What both sides answered.
+    pub answer: Answer,
+    /// The time of the left side's call: the median of three, or the only one.
+    pub time: Duration,
+    /// Bytes of all lent slices.
+    pub lent: usize,
+    /// Bytes of stack that the left side's call touched beyond those of reading a clearance, where this
+    /// is known.
+    pub stack: Option<usize>,
+}
+
+/// The heads of the lines.
+pub const HEADS: &str =
+    "depth rate job                       answer        ms  lent bytes  stack bytes";
+
+impl fmt::Display for Line {
+    fn fmt(&self, f: &mut fmt::Formatter) -> fmt::Result {
+        let known = |number: Option<usize>| number.map_or("-".to_string(), |n| n.to_string());
+        let answer = match self.answer {
+            Answer { number, first, .. } if number >= 20 => format!("{number} ({first})"),
+            Answer { number, .. } => number.to_string(),
+        };
+        let milliseconds = self.time.as_secs_f64() * 1e3;
+        write!(
+            f,
+            "{:>5} {:>4} {:<24} {answer:>7} {milliseconds:>9.3} {:>11} {:>12}",
+            self.depth,
+            known(self.rate),
+            self.case.name(),
+            self.lent,
+            known(self.stack),
+        )
+    }
+}
+
+/// Two implementations, and what the calls of the left one took.
+struct Large<'a> {
+    left: Runner,
+    /// The stack of the least call, which is not counted.
+    idle: usize,
+    comparison: Comparison,
+    rng: Rng,
+    /// What calls read or wrote, for those that follow.
+    known: BTreeMap<Input, Vec<u32>>,
+    tell: &'a mut dyn FnMut(&Line),
+}
+
+/// All cases at these depths and rates, told one by one. Stops at the first difference.
+pub fn run(
+    [left, right]: [Runner; 2],
+    depths: &[usize],
+    rates: &[usize],
+    tell: &mut dyn FnMut(&Line),
+) -> Result<(), Difference> {
+    let mut large = Large {
+        left,
+        idle: idle(left),
+        comparison: Comparison::new(left, right),
+        rng: Rng::new(400),
+        known: BTreeMap::new(),
+        tell,
+    };
+    for &depth in depths {
+        large.without_rate(depth)?;
+        for &rate in rates {
+            large.with_rate(Shape::random(depth, rate))?;
+        }
+    }
+    Ok(())
+}
+
+impl Large<'_> {
+    /// The jobs that are lent no rate.
+    fn without_rate(&mut self, depth: usize) -> Result<(), Difference> {
+        let shape = Shape::random(depth, 2);
+        for case in [Case::ToCoefficients, Case::ToTable, Case::Evaluate] {
+            let call = formed(case.job(), shape, &mut self.rng);
+            self.one(case, depth, call)?;
+        }
+        Ok(())
+    }
+
+    /// The jobs of a code: a message, its codeword, and its opening at one point.
+    fn with_rate(&mut self, shape: Shape) -> Result<(), Difference> {
+        self.known.clear();
+        let encoded = self.chained(Case::Encode, shape)?;
+        self.know(Input::Block, result(&encoded));
+        drop(encoded);
+        self.chained(Case::Decode, shape)?;
+        self.change_last_word(moved);
+        self.chained(Case::DecodeChanged, shape)?;
+        self.change_last_word(moved_back);
+        self.fold(shape)?;
+        let written = self.chained(Case::Write, shape)?;
+        self.know(Input::Opening, result(&written));
+        self.know(Input::Y, vec![written.out.value]);
+        drop(written);
+        let queries = most_queries(&shape.sizes, &mut self.rng);
+        self.know(Input::Queries, queries);
+        self.chained(Case::Verify, shape)?;
+        let y = self.known[&Input::Y][0];
+        self.know(Input::Y, vec![moved(y)]);
+        self.chained(Case::VerifyAnother, shape)?;
+        self.known.clear();
+        Ok(())
+    }
+
+    fn know(&mut self, input: Input, words: Vec<u32>) {
+        self.known.insert(input, words);
+    }
+
+    /// Changes the last word of the block.
+    fn change_last_word(&mut self, change: fn(u32) -> u32) {
+        let block = self.known.get_mut(&Input::Block).expect("encoded before");
+        let last = block.last_mut().expect("a block is not empty");
+        *last = change(*last);
+    }
+
+    /// A case whose call reads what is known, and whatever else it reads is known after it.
+    fn chained(&mut self, case: Case, shape: Shape) -> Result<Call, Difference> {
+        let mut call = formed(case.job(), shape, &mut self.rng);
+        for (input, words) in &mut call.lent.words {
+            if let Some(known) = self.known.remove(input) {
+                *words = known;
+            }
+        }
+        let mut call = self.one(case, shape.sizes.depth, call)?;
+        self.known.append(&mut call.lent.words);
+        Ok(call)
+    }
+
+    /// Folds the codeword by the top level, the only one of the diagonals that folding is lent.
+    fn fold(&mut self, shape: Shape) -> Result<(), Difference> {
+        let mut call = formed(Job::Fold, shape, &mut self.rng);
+        let level = shape.sizes.diagonal(shape.sizes.depth - 1);
+        for input in [Input::T, Input::T2] {
+            let words = self.known[&input][level.clone()].to_vec();
+            call.lent.words.insert(input, words);
+        }
+        let block = self.known.remove(&Input::Block).expect("encoded before");
+        call.lent.words.insert(Input::Block, block);
+        let mut call = self.one(Case::Fold, shape.sizes.depth, call)?;
+        let block = call.lent.words.remove(&Input::Block).expect("lent");
+        self.know(Input::Block, block);
+        Ok(())
+    }
+
+    /// Compares a call, measures it, and gives it back as the left side left it.
+    fn one(&mut self, case: Case, depth: usize, mut call: Call) -> Result<Call, Difference> {
+        call.add_note(case.name());
+        let answer = self.comparison.check(&call)?;
+        assert_eq!(answer, case.answer(depth), "agreed, but not due: {call}");
+        // The left side changes nothing that it only reads, as was just seen: no copy of that.
+        let lent = call.out.clone();
+        let again = |call: &mut Call| call.out = lent.clone();
+        let left = self.left;
+        let time = median(|| {
+            again(&mut call);
+            let start = Instant::now();
+            let found = left(&mut call);
+            let time = start.elapsed();
+            assert_eq!(found, answer, "another answer to the same call");
+            time
+        });
+        again(&mut call);
+        let touched = stack::touched(&mut || {
+            left(&mut call);
+        });
+        let line = Line {
+            case,
+            depth,
+            rate: call.lent.rate.map(|rate| rate as usize),
+            answer,
+            time,
+            lent: call.bytes(),
+            stack: touched.map(|bytes| bytes.saturating_sub(self.idle)),
+        };
+        (self.tell)(&line);
+        Ok(call)
+    }
+}
+
+/// The stack of reading one word: what it takes to call.
+fn idle(left: Runner) -> usize {
+    let mut call = formed(Job::ReadClearance, Shape::random(0, 2), &mut Rng::new(0));
+    let touched = stack::touched(&mut || {
+        left(&mut call);
+    });
+    touched.unwrap_or(0)
+}
+
+/// What a call wrote.
+fn result(call: &Call) -> Vec<u32> {
+    let result = call.out.result.as_ref().expect("a job with a result");
+    result.lent().to_vec()
+}
+
+/// The median of three times, or the first if it is long.
+fn median(mut time: impl FnMut() -> Duration) -> Duration {
+    let first = time();
+    if first > LONG {
+        return first;
+    }
+    let mut times = [first, time(), time()];
+    times.sort();
+    times[1]
+}
+
+#[cfg(test)]
+mod tests {
+    use super::*;
+    use crate::run::any;
+    use tvarchula_reference::Reference;
+
+    const REFERENCE: Runner = any::<Reference>;
+
+    fn lines(left: Runner, depths: &[usize], rates: &[usize]) -> Result<Vec<Line>, Difference> {
+        let mut lines = Vec::new();
+        let mut tell = |line: &Line| lines.push(*line);
+        run([left, REFERENCE], depths, rates, &mut tell)?;
+        Ok(lines)
+    }
+
+    #[test]
+    fn every_case_once_for_each_rate_that_it_has() {
+        let lines = lines(REFERENCE, &[1, 5], &[2, 3]).expect("one implementation");
+        for case in Case::ALL {
+            let of_case = lines.iter().filter(|line| line.case == case);
+            let found: Vec<_> = of_case.map(|line| (line.depth, line.rate)).collect();
+            let due = if case.job() < Job::Encode {
+                vec![(1, None), (5, None)]
+            } else {
+                let rates = [1, 5].map(|depth| [(depth, Some(2)), (depth, Some(3))]);
+                rates.concat()
+            };
+            assert_eq!(found, due, "{case:?}");
+        }
+        // By the lengths of the order: g, T, T', message and block.
+        let encode = lines.iter().find(|line| line.case == Case::Encode).unwrap();
+        assert_eq!(encode.lent, 4 * (2 + 2 + 2 + 2 + 4));
+    }
+
+    #[test]
+    fn a_wrong_word_in_any_case_is_found() {
+        fn wrong_last(call: &mut Call) -> Answer {
+            let answer = REFERENCE(call);
+            if let Some(last) = call.out.parts().result.last_mut() {
+                *last ^= u32::from(call.job == Job::WriteOpening);
+            }
+            answer
+        }
+        fn accepts_any(call: &mut Call) -> Answer {
+            match call.job {
+                Job::VerifyOpening => Answer::DONE,
+                _ => REFERENCE(call),
+            }
+        }
+        for (wrong, job) in [
+            (wrong_last as Runner, Job::WriteOpening),
+            (accepts_any, Job::VerifyOpening),
+        ] {
+            let difference = lines(wrong, &[5], &[2]).expect_err("a wrong side");
+            assert_eq!(difference.call.job, job);
+        }
+    }
+
+    #[test]
+    fn no_query_twice() {
+        for (depth, rate, due) in [(0, 2, 0), (1, 2, 2), (5, 3, 48), (9, 16, 256)] {
+            let sizes = Shape::random(depth, rate).sizes;
+            let queries = most_queries(&sizes, &mut Rng::new(1));
+            let different: std::collections::BTreeSet<_> = queries.iter().collect();
+            assert_eq!((queries.len(), different.len()), (due, due));
+        }
+    }
+}
