@@ -280,7 +280,7 @@ mod tests {
     }
 
     #[test]
-    fn a_wrong_word_in_any_case_is_found() {
+    fn a_wrong_writer_and_a_wrong_verifier_are_found() {
         fn wrong_last(call: &mut Call) -> Answer {
             let answer = REFERENCE(call);
             if let Some(last) = call.out.parts().result.last_mut() {
