@@ -1,6 +1,6 @@
 -- Paths through a node from those through its children, and what is carried from words and paths. Assumes nothing.
 use mathlib.Core.Path.{_≡_, refl, sym, ap, ap₂, _∙_}
-use mathlib.Core.Bool.{Bool, true, false}
+use mathlib.Core.Bool.{Bool, true, false, cond}
 use mathlib.Core.List.{List, _++_, append-assoc}
 use Prim.Native.Nat.{ℕ, zero, suc, _+_, _*_, _-_, _/_, _%_, _^_, _≤_}
 use native.Mathlib.Nat.{add-zero, mod-lt, div-eq-of-lt}
@@ -15,7 +15,7 @@ use Rattle.algebra.specs.Lists.{put}
 use Rattle.merkle.specs.Tree.{sibling, node}
 use Rattle.hash_tree.specs.Tree.{nodeHash}
 use Rattle.hash_root.specs.Levels.{leafOf}
-use Rattle.hash_parts.specs.Queries.{pick, putEach, Room, leaves, leafBytes, wordsPut, under, other, siblingsPut}
+use Rattle.hash_parts.specs.Queries.{putEach, Room, leaves, leafBytes, wordsPut, under, other, siblingsPut}
 use Rattle.hash_parts.specs.Parts.{Keeps, edit, edit-keeps, parts, put-parts, put-then, parts-ext}
 use Rattle.hash_opened.specs.Carried.{pathBytes, carried, written, pathsPut}
 use Rattle.hash_opened.specs.CarriedLaws.{length-node, path-up, length-path, length-leaf}
@@ -37,7 +37,7 @@ put-behind k m x y p e h =
 
 -- one part: a list put for one child, for the other, and then a sibling
 abbrev thrice : ℕ → ℕ → List ℕ → List ℕ → List ℕ → Bool → Bool → Bool → List ℕ
-thrice k m x y p a b c = pick c (put m y (pick b (put k x (pick a (put k x p) p)) (pick a (put k x p) p))) (pick b (put k x (pick a (put k x p) p)) (pick a (put k x p) p))
+thrice k m x y p a b c = cond c (put m y (cond b (put k x (cond a (put k x p) p)) (cond a (put k x p) p))) (cond b (put k x (cond a (put k x p) p)) (cond a (put k x p) p))
 
 thrice-at : (k m : ℕ) (x p : List ℕ) {y z : List ℕ} {a b c a' b' c' : Bool} → y ≡ z → a ≡ a' → b ≡ b' → c ≡ c' → thrice k m x y p a b c ≡ thrice k m x z p a' b' c'
 thrice-at k m x p {y} {z} {a} {b} {c} {a'} {b'} {c'} e f g h =
@@ -71,7 +71,7 @@ module _ (w : List ℕ) (n low j u : ℕ) (l r p : List ℕ) (e : l ≡ node nod
   steps : List ℕ → Bool → Bool → Bool → List ℕ
   steps y = thrice 8 (8 + 32 * low) x y p
 
-  left-child : i ≡ 2 * j → steps (either (i % 2) l r) (eqb i (2 * j)) (eqb i (2 * j + 1)) c ≡ pick c whole p
+  left-child : i ≡ 2 * j → steps (either (i % 2) l r) (eqb i (2 * j)) (eqb i (2 * j + 1)) c ≡ cond c whole p
   unfolding c whole steps
   left-child q =
       let even : i % 2 ≡ 0 = omega arith in
@@ -79,9 +79,9 @@ module _ (w : List ℕ) (n low j u : ℕ) (l r p : List ℕ) (e : l ≡ node nod
       let beside : 2 * j + 1 ≡ sibling i = omega arith ∙ sym (ap (λ v. either v (i - 1) (i + 1)) even) in
       thrice-at 8 (8 + 32 * low) x p (ap (λ v. either v l r) even) (eq-eqb i (2 * j) q) (ne-eqb i (2 * j + 1) (λ h. omega arith)) here
       ∙ longer r (f ∙ ap (node nodeHash (leafOf w) low) beside)
-      ∙ sym (ap (λ v. pick v whole p) here)
+      ∙ sym (ap (λ v. cond v whole p) here)
 
-  right-child : i ≡ 2 * j + 1 → steps (either (i % 2) l r) (eqb i (2 * j)) (eqb i (2 * j + 1)) c ≡ pick c whole p
+  right-child : i ≡ 2 * j + 1 → steps (either (i % 2) l r) (eqb i (2 * j)) (eqb i (2 * j + 1)) c ≡ cond c whole p
   unfolding c whole steps
   right-child q =
       let odd : i % 2 ≡ 1 = omega arith in
@@ -89,21 +89,21 @@ module _ (w : List ℕ) (n low j u : ℕ) (l r p : List ℕ) (e : l ≡ node nod
       let beside : 2 * j ≡ sibling i = omega arith ∙ sym (ap (λ v. either v (i - 1) (i + 1)) odd) in
       thrice-at 8 (8 + 32 * low) x p (ap (λ v. either v l r) odd) (ne-eqb i (2 * j) (λ h. omega arith)) (eq-eqb i (2 * j + 1) q) here
       ∙ longer l (e ∙ ap (node nodeHash (leafOf w) low) beside)
-      ∙ sym (ap (λ v. pick v whole p) here)
+      ∙ sym (ap (λ v. cond v whole p) here)
 
-  no-child : (i ≡ 2 * j → ⊥) → (i ≡ 2 * j + 1 → ⊥) → steps (either (i % 2) l r) (eqb i (2 * j)) (eqb i (2 * j + 1)) c ≡ pick c whole p
+  no-child : (i ≡ 2 * j → ⊥) → (i ≡ 2 * j + 1 → ⊥) → steps (either (i % 2) l r) (eqb i (2 * j)) (eqb i (2 * j + 1)) c ≡ cond c whole p
   unfolding c whole steps
   no-child q s =
       let away : c ≡ false = ne-eqb _ j (λ h. omega (arith, up)) in
       thrice-at 8 (8 + 32 * low) x p {y = either (i % 2) l r} refl (ne-eqb i (2 * j) q) (ne-eqb i (2 * j + 1) s) away
-      ∙ sym (ap (λ v. pick v whole p) away)
+      ∙ sym (ap (λ v. cond v whole p) away)
 
   one-step : edit (under n (low + 1) j) (other n low l r) (8 + 32 * low) u (edit (under n low (2 * j + 1)) (λ v. pathBytes w low (v % n)) 8 u (edit (under n low (2 * j)) (λ v. pathBytes w low (v % n)) 8 u p))
       ≡ edit (under n (low + 1) j) (λ v. pathBytes w (suc low) (v % n)) 8 u p
   unfolding i x c whole steps
   one-step = go (eqb i (2 * j)) (eqb i (2 * j + 1)) refl refl
     where
-      go : (a b : Bool) → eqb i (2 * j) ≡ a → eqb i (2 * j + 1) ≡ b → steps (either (i % 2) l r) (eqb i (2 * j)) (eqb i (2 * j + 1)) c ≡ pick c whole p
+      go : (a b : Bool) → eqb i (2 * j) ≡ a → eqb i (2 * j + 1) ≡ b → steps (either (i % 2) l r) (eqb i (2 * j)) (eqb i (2 * j + 1)) c ≡ cond c whole p
       go true b q s = left-child (eqb-true i (2 * j) q)
       go false true q s = right-child (eqb-true i (2 * j + 1) s)
       go false false q s = no-child (eqb-false i (2 * j) q) (eqb-false i (2 * j + 1) s)
@@ -188,6 +188,6 @@ all-carried h w us first s o {o₁} size room p q =
         let low : u % n / 2 ^ h ≡ 0 = div-eq-of-lt (omega (arith, ap (λ k. u % k) half, mod-lt u (pow-pos h))) in
         let a = length-leaf n w (u % n) in
         let m = room .one in
-        ap (λ b. pick b (put 8 (path u) (put 0 (leaf u) p)) (put 0 (leaf u) p)) (eq-eqb _ 0 low)
+        ap (λ b. cond b (put 8 (path u) (put 0 (leaf u) p)) (put 0 (leaf u) p)) (eq-eqb _ 0 low)
         ∙ put-behind 0 8 (leaf u) (path u) p (omega arith) (omega arith)
         ∙ ap (λ x. put 0 x p) (carried-by h w u n half)

@@ -1,6 +1,6 @@
 -- One query after the other, and one sibling of two. Assumes nothing.
 use mathlib.Core.Path.{_≡_, sym, ap, ap₂, _∙_}
-use mathlib.Core.Bool.{Bool}
+use mathlib.Core.Bool.{Bool, cond}
 use mathlib.Core.List.{List, _++_, append-assoc}
 use Prim.Native.Nat.{ℕ, suc, _+_, _*_, _/_, _%_, _^_, _<_, _≤_}
 use native.Mathlib.Nat.{mul-suc}
@@ -12,10 +12,10 @@ use lib.Seq.{drop-cons, paste, take-length}
 use borrow.Author.Tests.{eq-eqb, ne-eqb}
 use Rattle.algebra.specs.Bits.{either}
 use Rattle.algebra.specs.Lists.{put}
-use Rattle.hash_parts.specs.Queries.{pick, putEach}
+use Rattle.hash_parts.specs.Queries.{putEach}
 
 module _ (b : ℕ → Bool) (x : ℕ → List ℕ) (s : ℕ) where
-  pub each-turn : (us : List ℕ) (k at : ℕ) (o : List ℕ) {q r : List ℕ} → k < length us → q ≡ pick (b (getD us k 0)) (put at (x (getD us k 0)) o) o
+  pub each-turn : (us : List ℕ) (k at : ℕ) (o : List ℕ) {q r : List ℕ} → k < length us → q ≡ cond (b (getD us k 0)) (put at (x (getD us k 0)) o) o
       → putEach b x s (drop k us) at o ≡ r → putEach b x s (drop (k + 1) us) (at + s) q ≡ r
   unfolding putEach
   each-turn us k at o h e p =
@@ -35,14 +35,14 @@ copy-put o at s e p = p ∙ copied o at s ∙ ap (λ y. put at y o) e
 
 -- one sibling of two, or none
 module _ (x t j at : ℕ) (left right o : List ℕ) where
-  pub skipped : (x / 2 ^ (t + 1) ≡ j → ⊥) → o ≡ pick (eqb (x / 2 ^ (t + 1)) j) (put at (either (x / 2 ^ t % 2) left right) o) o
-  skipped h = sym (ap (λ b. pick b (put at (either (x / 2 ^ t % 2) left right) o) o) (ne-eqb _ j h))
+  pub skipped : (x / 2 ^ (t + 1) ≡ j → ⊥) → o ≡ cond (eqb (x / 2 ^ (t + 1)) j) (put at (either (x / 2 ^ t % 2) left right) o) o
+  skipped h = sym (ap (λ b. cond b (put at (either (x / 2 ^ t % 2) left right) o) o) (ne-eqb _ j h))
 
   pub chosen : (b : ℕ) (s : List ℕ) {q : List ℕ} → x / 2 ^ (t + 1) ≡ j → x / 2 ^ t % 2 ≡ b → either b left right ≡ s → q ≡ paste o at s (length s)
-      → q ≡ pick (eqb (x / 2 ^ (t + 1)) j) (put at (either (x / 2 ^ t % 2) left right) o) o
+      → q ≡ cond (eqb (x / 2 ^ (t + 1)) j) (put at (either (x / 2 ^ t % 2) left right) o) o
   chosen b s h e f p =
       copy-put o at s (sym f ∙ sym (ap (λ c. either c left right) e)) p
-      ∙ sym (ap (λ c. pick c (put at (either (x / 2 ^ t % 2) left right) o) o) (eq-eqb _ j h))
+      ∙ sym (ap (λ c. cond c (put at (either (x / 2 ^ t % 2) left right) o) o) (eq-eqb _ j h))
 
 -- the room that the queries from k on take
 pub turn-room : (us : List ℕ) (s k : ℕ) → k < length us → s * length (drop k us) ≡ s + s * length (drop (k + 1) us)

@@ -1,6 +1,6 @@
 -- What is put for each query changes that query's part of the buffer alone, so that several puttings go part by part. Assumes nothing.
 use mathlib.Core.Path.{_≡_, refl, sym, ap, ap₂, _∙_}
-use mathlib.Core.Bool.{Bool, true, false, not}
+use mathlib.Core.Bool.{Bool, true, false, not, cond}
 use mathlib.Core.List.{List, [], _∷_, _++_, append-assoc}
 use Prim.Native.Nat.{ℕ, zero, suc, _+_, _*_, _<_, _≤_}
 use native.Mathlib.Nat.{add-zero, mul-zero, mul-suc}
@@ -10,7 +10,7 @@ use lib.Seq.{take-at, drop-at, length-take-le, drop-drop, take-append-add, drop-
 use borrow.Author.Tests.{not-true}
 use Rattle.algebra.specs.Lists.{put}
 use Rattle.algebra.specs.Tests.{all, and-both}
-use Rattle.hash_parts.specs.Queries.{pick, putEach}
+use Rattle.hash_parts.specs.Queries.{putEach}
 
 -- WHERE NOTHING IS PUT: no query passes, or there is nothing to put
 module _ (b : ℕ → Bool) (x : ℕ → List ℕ) (s : ℕ) where
@@ -19,14 +19,14 @@ module _ (b : ℕ → Bool) (x : ℕ → List ℕ) (s : ℕ) where
   none-pass [] at o h = refl
   none-pass (u ∷ us) at o h =
       let t = and-both (not (b u)) (all (λ v. not (b v)) us) h in
-      ap (λ v. putEach b x s us (at + s) (pick v (put at (x u) o) o)) (not-true (b u) (t .0)) ∙ none-pass us (at + s) o (t .1)
+      ap (λ v. putEach b x s us (at + s) (cond v (put at (x u) o) o)) (not-true (b u) (t .0)) ∙ none-pass us (at + s) o (t .1)
 
   pub none-given : (us : List ℕ) (at : ℕ) (o : List ℕ) → ((u : ℕ) → x u ≡ []) → putEach b x s us at o ≡ o
   unfolding putEach
   none-given [] at o h = refl
   none-given (u ∷ us) at o h = ap (putEach b x s us (at + s)) (same (b u)) ∙ none-given us (at + s) o h
     where
-      same : (t : Bool) → pick t (put at (x u) o) o ≡ o
+      same : (t : Bool) → cond t (put at (x u) o) o ≡ o
       same true = ap (λ y. put at y o) (h u) ∙ ap (λ k. take at o ++ drop k o) (add-zero at) ∙ take-append-drop at o
       same false = refl
 
@@ -41,7 +41,7 @@ Keeps s f = (u : ℕ) (p : List ℕ) → length p ≡ s → length (f u p) ≡ s
 
 -- x u at a place of the part, where u passes
 abbrev pub edit : (ℕ → Bool) → (ℕ → List ℕ) → ℕ → ℕ → List ℕ → List ℕ
-edit b x off u p = pick (b u) (put off (x u) p) p
+edit b x off u p = cond (b u) (put off (x u) p) p
 
 length-put : (k : ℕ) (x o : List ℕ) → k + length x ≤ length o → length (put k x o) ≡ length o
 length-put k x o h = simp (length-append, length-take, length-drop) (omega arith)
@@ -49,7 +49,7 @@ length-put k x o h = simp (length-append, length-take, length-drop) (omega arith
 pub edit-keeps : (b : ℕ → Bool) (x : ℕ → List ℕ) (off s : ℕ) → ((u : ℕ) → off + length (x u) ≤ s) → Keeps s (edit b x off)
 edit-keeps b x off s h u p e = go (b u)
   where
-    go : (t : Bool) → length (pick t (put off (x u) p) p) ≡ s
+    go : (t : Bool) → length (cond t (put off (x u) p) p) ≡ s
     go true = length-put off (x u) p (omega (arith, h u)) ∙ e
     go false = e
 
@@ -64,13 +64,13 @@ put-middle a p c x off h =
 
 module _ (b : ℕ → Bool) (x : ℕ → List ℕ) (off s : ℕ) (fits : (u : ℕ) → off + length (x u) ≤ s) where
   edit-middle : (u : ℕ) (a r : List ℕ) → s ≤ length r
-      → pick (b u) (put (length a + off) (x u) (a ++ r)) (a ++ r) ≡ (a ++ edit b x off u (take s r)) ++ drop s r
+      → cond (b u) (put (length a + off) (x u) (a ++ r)) (a ++ r) ≡ (a ++ edit b x off u (take s r)) ++ drop s r
   edit-middle u a r h = go (b u)
     where
       whole : r ≡ take s r ++ drop s r
       whole = sym (take-append-drop s r)
 
-      go : (t : Bool) → pick t (put (length a + off) (x u) (a ++ r)) (a ++ r) ≡ (a ++ pick t (put off (x u) (take s r)) (take s r)) ++ drop s r
+      go : (t : Bool) → cond t (put (length a + off) (x u) (a ++ r)) (a ++ r) ≡ (a ++ cond t (put off (x u) (take s r)) (take s r)) ++ drop s r
       go true =
           ap (λ o. put (length a + off) (x u) (a ++ o)) whole
           ∙ put-middle a (take s r) (drop s r) (x u) off (omega (arith, fits u, length-take-le s r h))

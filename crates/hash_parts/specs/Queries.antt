@@ -1,5 +1,5 @@
 -- What is put into a buffer for each query of a hash tree. Definitions only. Assumes nothing.
-use mathlib.Core.Bool.{Bool, true, false}
+use mathlib.Core.Bool.{Bool, true, cond}
 use mathlib.Core.List.{List, [], _∷_, _++_}
 use Prim.Native.Nat.{ℕ, _+_, _*_, _/_, _%_, _^_, _≤_}
 use lib.Dec.{eqb}
@@ -8,15 +8,10 @@ use Rattle.algebra.specs.Bits.{either}
 use Rattle.algebra.specs.Lists.{put}
 use Rattle.hash_tree.specs.Tree.{lowFirst}
 
--- one of two by a test
-abbrev pub pick : {A : Type 0} → Bool → A → A → A
-pick true a b = a
-pick false a b = b
-
 -- x u put at a place for each query u that passes; the places are stride apart
 unfoldable pub putEach : (ℕ → Bool) → (ℕ → List ℕ) → ℕ → List ℕ → ℕ → List ℕ → List ℕ
 putEach b x stride [] at o = o
-putEach b x stride (u ∷ us) at o = putEach b x stride us (at + stride) (pick (b u) (put at (x u) o) o)
+putEach b x stride (u ∷ us) at o = putEach b x stride us (at + stride) (cond (b u) (put at (x u) o) o)
 
 -- there is room for each query's part, of some bytes
 pub record Room (part first stride : ℕ) (us out : List ℕ) : Type 0 where
