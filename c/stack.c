@@ -1,5 +1,5 @@
-/* How much stack the functions take: each one runs at depth 16, and at rate 16 or the one that -DRATE= names, on a painted stack of its
- * own. Prints the bytes that were touched beyond those of a call that does nothing, and exits with 1 when some function takes LIMIT or
+/* How much stack the functions take: each one runs at the largest depth, and at rate 4 or the one that -DRATE= names, on a painted stack of
+ * its own. Decoding goes one way at rates 2 and 3 and another from 4 on; beyond that the rate makes no difference. Prints the bytes that were touched beyond those of a call that does nothing, and exits with 1 when some function takes LIMIT or
  * more, or does not answer 0. */
 #define _DEFAULT_SOURCE
 #include <stdio.h>
@@ -10,10 +10,10 @@
 #include "tvarchula.h"
 
 #ifndef RATE
-#define RATE 16
+#define RATE 4
 #endif
 
-enum { DEPTH = 16, STACK = 1 << 18, PAINT = 0xa5, LIMIT = 4096 };
+enum { DEPTH = TV_MAX_DEPTH, STACK = 1 << 18, PAINT = 0xa5, LIMIT = 4096 };
 
 #define MESSAGE TV_MESSAGE_LEN(DEPTH)
 #define BLOCK TV_BLOCK_LEN(DEPTH, RATE)

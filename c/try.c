@@ -26,7 +26,8 @@ typedef struct {
 #define DONE ((tv_answer){0, 0, 0})
 #define NUMBER(number) ((tv_answer){number, 0, 0})
 
-static const uint32_t zeros[8];
+/* Enough for the work buffers of depth 17. */
+static const uint32_t zeros[TV_BLOCK_LEN(17, 2)];
 
 /* What a call is lent, to be checked after it. */
 typedef struct {
@@ -228,15 +229,16 @@ static void codewords(void)
     evaluate("5 + 7 * 3", 1, LIST(5, 7), LIST(3), DONE, LIST(26));
     evaluate("point word 2147483646", 1, LIST(5, 7), LIST(P - 1), DONE, LIST(P - 2));
     evaluate("point word 2147483647", 1, LIST(5, 7), LIST(P), NUMBER(4), AS_IT_WAS(1));
-    evaluate("evaluation at depth 17", 17, LIST(5, 7), LIST(3), NUMBER(1), AS_IT_WAS(1));
+    evaluate("evaluation of two words at depth 17", 17, LIST(5, 7), LIST(3), NUMBER(3), AS_IT_WAS(1));
+    evaluate("evaluation at depth 21", 21, LIST(5, 7), LIST(3), NUMBER(1), AS_IT_WAS(1));
 
     encode("message 5 7 encoded", c, LIST(5, 7), DONE, OF(block_1));
     encode("message 9 encoded at depth 0", depth_0(), LIST(9), DONE, LIST(9, 9));
     encode("message word 2147483646", c, LIST(0, P - 1), DONE, LIST(P - 2, P - 3, 2, 3));
     encode("message word 2147483647", c, LIST(5, P), NUMBER(4), AS_IT_WAS(4));
     encode("block of another length", c, LIST(5, 7), NUMBER(3), AS_IT_WAS(3));
-    other.depth = 17;
-    encode("depth 17", other, LIST(5, 7), NUMBER(1), AS_IT_WAS(4));
+    other.depth = 21;
+    encode("depth 21", other, LIST(5, 7), NUMBER(1), AS_IT_WAS(4));
     other = c;
     other.rate = 1;
     encode("rate 1", other, LIST(5, 7), NUMBER(2), AS_IT_WAS(4));
@@ -254,6 +256,7 @@ static void codewords(void)
 
     fold("that block folded by 4", 1, OF(block_1), 4, DONE, LIST(33, 33));
     fold("folded from level 0", 0, OF(block_1), 4, NUMBER(1), AS_IT_WAS(2));
+    fold("folded from level 21", 21, OF(block_1), 4, NUMBER(1), AS_IT_WAS(2));
     fold("folded by 2147483647", 1, OF(block_1), P, NUMBER(4), AS_IT_WAS(2));
 }
 
@@ -299,12 +302,38 @@ static void second_half(void)
     verify("queries 3 3 0: fold of query 2 to level 1", c, block, z, 226, r, LIST(3, 3, 0), wrong, (tv_answer){23, 2, 1});
 }
 
+static uint32_t many[4][TV_BLOCK_LEN(17, 2)];
+
+/* The first words of a list of one word. */
+static list repeated(size_t place, uint32_t word, size_t length)
+{
+    for (size_t i = 0; i < length; i++)
+        many[place][i] = word;
+    return (list){many[place], length};
+}
+
+/* Depth 17. The message 9 0 0 .. is the polynomial 9: so are all its values, the entries of its table and the words of its codeword. */
+static void deep(void)
+{
+    static const uint32_t message[TV_MESSAGE_LEN(17)] = {9};
+    static const uint32_t point[17] = {3, 1, 4, 1, 5, 9, 2, 6, 5, 3, 5, 8, 9, 7, 9, 3, 2};
+    const size_t m = TV_MESSAGE_LEN(17), n = TV_BLOCK_LEN(17, 2), l = TV_DIAGONALS_LEN(17, 2);
+    code c = {17, 2, OF(row), repeated(0, 2, l), repeated(1, 3, l)};
+    list nines = repeated(2, 9, n), entries = {nines.at, m};
+    to_coefficients("131072 entries of 9", entries, DONE, OF(message));
+    to_table("and back", OF(message), DONE, entries, ZEROS(m));
+    evaluate("9 at depth 17", 17, OF(message), OF(point), DONE, LIST(9));
+    encode("9 encoded at depth 17", c, OF(message), DONE, nines);
+    decode("and decoded", c, nines, DONE, OF(message), ZEROS(n));
+}
+
 int main(void)
 {
     clearances();
     codewords();
     openings();
     second_half();
+    deep();
     printf("%d differences\n", differences);
     return differences > 0;
 }

@@ -5,10 +5,10 @@
 #include <cstring>
 #include <vector>
 
-static_assert(TV_MESSAGE_LEN(16) == 65536, "words of a message");
-static_assert(TV_BLOCK_LEN(16, 16) == 1048576, "words of a block");
+static_assert(TV_MESSAGE_LEN(20) == 1048576, "words of a message");
+static_assert(TV_BLOCK_LEN(20, 16) == 16777216, "words of a block");
 static_assert(TV_DIAGONALS_LEN(1, 2) == 2 && TV_DIAGONALS_LEN(0, 2) == 0, "words of a diagonal");
-static_assert(TV_OPENING_LEN(16, 16) == 1048609 && TV_OPENING_LEN(0, 2) == 1, "words of an opening");
+static_assert(TV_OPENING_LEN(20, 16) == 16777261 && TV_OPENING_LEN(0, 2) == 1, "words of an opening");
 static_assert(TV_MAX_TABLE_LEN == TV_MESSAGE_LEN(TV_MAX_DEPTH), "the longest table");
 
 /* data() of an empty vector may be null; a slice's pointer may not. */

@@ -1,7 +1,7 @@
 /* Tvarchula: a BaseFold commitment over the integers modulo 2147483647.
  *
  * One function for each job, over the static library libtvarchula.a. The archive is for x86-64 with SSE2. It wants memset and nothing
- * else, has no data of its own, and takes less than 3.5 KiB of stack at depth 16, where c/stack.c measures it: count on 4 KiB.
+ * else, has no data of its own, and takes less than 4 KiB of stack at depth 20, where c/stack.c measures it: count on 8 KiB.
  *
  * Every function answers on any input and keeps no state: any number of threads may call it at once. All memory is lent by the caller;
  * the library allocates nothing and keeps no pointer.
@@ -25,17 +25,17 @@
  * when declarations and answers stay, MINOR when some are added, MAJOR when one changes or goes. As long as MAJOR is 0, MINOR moves for
  * changes too. A program and its archive have MAJOR and MINOR in common. */
 #define TV_VERSION_MAJOR 0
-#define TV_VERSION_MINOR 2
+#define TV_VERSION_MINOR 3
 #define TV_VERSION_PATCH 0
-#define TV_VERSION "0.2.0"
+#define TV_VERSION "0.3.0"
 
 /* Limits. */
 #define TV_MODULUS 2147483647u
-#define TV_MAX_DEPTH 16u
+#define TV_MAX_DEPTH 20u
 #define TV_MIN_RATE 2u
 #define TV_MAX_RATE 16u
 #define TV_MAX_QUERIES 256u
-#define TV_MAX_TABLE_LEN 65536u
+#define TV_MAX_TABLE_LEN 1048576u
 #define TV_MAX_CLEARANCE 1073741823
 
 /* The number of an answer. When several apply, the smallest is given. A number that is not listed here comes from an archive of another

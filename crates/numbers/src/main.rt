@@ -6,6 +6,7 @@ fn main() {
     numbers_ground::ranges();
     numbers_ground::transforms();
     numbers_ground::evaluations();
+    numbers_ground::depths();
     numbers_coding::encodings();
     numbers_coding::decodings();
     numbers_coding::refusals();

@@ -20,6 +20,8 @@ fn foldings(block: &[u32]) {
     fold(b"fold by 4:", 1, block, &mut folded);
     print::words(b"folded", &folded);
     fold(b"fold from level 0:", 0, block, &mut folded);
+    fold(b"fold from level 17:", 17, block, &mut folded);
+    fold(b"fold from level 21:", 21, block, &mut folded);
 }
 
 pub fn encodings() {
@@ -69,6 +71,7 @@ pub fn refusals() {
     refusal(b"encode at rate 1:", 1, 1, 1);
     refusal(b"encode at rate 17:", 1, 17, 1);
     refusal(b"encode at depth 17:", 17, 2, 1);
+    refusal(b"encode at depth 21:", 21, 2, 1);
     refusal(b"a zero in g and an equal pair:", 1, 2, 0);
     refusal(b"an equal pair:", 1, 2, 1);
 }

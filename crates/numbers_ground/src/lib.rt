@@ -1,6 +1,8 @@
 // Clearances, tables and evaluation.
 use clearance::reading;
 use clearance::reading::Reading;
+use job::Answer;
+use job::Refusal;
 use polynomial::Evaluation;
 use table::to_coefficients;
 use table::to_table;
@@ -118,4 +120,19 @@ pub fn evaluations() {
     evaluate(b"5 7 at 2147483646:", 1, 2147483646);
     evaluate(b"5 7 at 2147483647:", 1, 2147483647);
     evaluate(b"5 7 at depth 17:", 17, 3);
+    evaluate(b"5 7 at depth 21:", 21, 3);
+}
+
+// A depth by itself: the words of one above 13 do not fit into a program's buffers.
+fn depth(text: &[u8], depth: u32) {
+    print::answer(
+        text,
+        job::require(job::depth_ok(depth), Refusal::Depth, Answer::Done),
+    );
+}
+
+pub fn depths() {
+    depth(b"depth 17:", 17);
+    depth(b"depth 20:", 20);
+    depth(b"depth 21:", 21);
 }

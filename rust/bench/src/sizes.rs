@@ -3,7 +3,7 @@
 use std::ops::Range;
 
 /// The largest depth.
-pub const MAX_DEPTH: u32 = 16;
+pub const MAX_DEPTH: u32 = 20;
 /// The longest query list.
 pub const MAX_QUERIES: usize = 256;
 /// Bytes of a word.

@@ -118,7 +118,8 @@ mod tests {
         let (t, t2, block) = ([2, 3], [4, 5], [1, 2, 3, 4]);
         assert_eq!(number(1, 2, &t, &t2, &block, 0, 2), 0);
         assert_eq!(number(0, 1, &t, &t2, &block, 0, 2), 1);
-        assert_eq!(number(17, 2, &t, &t2, &block, 0, 2), 1);
+        assert_eq!(number(21, 2, &t, &t2, &block, 0, 2), 1);
+        assert_eq!(number(20, 2, &t, &t2, &block, 0, 2), 3);
         assert_eq!(number(1, 17, &t, &t2, &block, p, 3), 2);
         assert_eq!(number(1, 2, &t, &t2, &block, p, 3), 3);
         assert_eq!(number(1, 2, &t, &t, &block, p, 2), 4);

@@ -13,19 +13,19 @@ fn demand(holds: bool, refusal: Refusal) -> Result<(), Refusal> {
     }
 }
 
-/// 1: the depth is 0 to 16.
+/// 1: the depth is 0 to 20.
 pub fn depth(depth: u32) -> Result<usize, Refusal> {
     demand(depth <= MAX_DEPTH, Refusal::Size)?;
     Ok(depth as usize)
 }
 
-/// 1, for folding: the upper level is 1 to 16.
+/// 1, for folding: the upper level is 1 to 20.
 pub fn upper_level(level: u32) -> Result<usize, Refusal> {
     demand((1..=MAX_DEPTH).contains(&level), Refusal::Size)?;
     Ok(level as usize)
 }
 
-/// 1, for tables: the length is a power of two from 1 to 65536. Gives the depth.
+/// 1, for tables: the length is a power of two from 1 to 1048576. Gives the depth.
 pub fn table_length(length: usize) -> Result<usize, Refusal> {
     let legal = length.is_power_of_two() && length <= MAX_TABLE;
     demand(legal, Refusal::Size)?;

@@ -1,6 +1,8 @@
 //! The order's numbers to try, each as it is printed there, as checks on any implementation of the
 //! jobs. They panic where a number is not met.
 
+mod deep;
+
 use crate::answer::Answer;
 use crate::code::LentCode;
 use crate::jobs::{CodeJobs, GroundJobs, OpeningJobs};
@@ -68,10 +70,12 @@ pub fn ground<J: GroundJobs>() {
     assert_eq!(J::evaluate(1, &[5, 7], &[3], &mut value), Answer::DONE);
     assert_eq!(value, 26);
     assert_eq!(J::evaluate(1, &[5, 7], &[P], &mut value), answer(4, 0, 0));
-    assert_eq!(J::evaluate(17, &[5, 7], &[3], &mut value), answer(1, 0, 0));
+    assert_eq!(J::evaluate(17, &[5, 7], &[3], &mut value), answer(3, 0, 0));
+    assert_eq!(J::evaluate(21, &[5, 7], &[3], &mut value), answer(1, 0, 0));
     assert_eq!(value, 26);
     assert_eq!(J::read_clearance(P).number, 4);
     assert_eq!(J::read_clearance(P - 1).number, 0);
+    deep::ground::<J>();
 }
 
 /// Codeword, decoding, fold, and the edges of the refusals.
@@ -98,7 +102,8 @@ pub fn code<J: CodeJobs>() {
     assert_eq!(encode(CODE, &[5, P - 1]).0, 0);
     assert_eq!(encode(CODE, &[5, P]), (4, [77; 4]));
     let refused = |code| encode(code, &[5, 7]);
-    assert_eq!(refused(LentCode { depth: 17, ..CODE }), (1, [77; 4]));
+    assert_eq!(refused(LentCode { depth: 17, ..CODE }), (3, [77; 4]));
+    assert_eq!(refused(LentCode { depth: 21, ..CODE }), (1, [77; 4]));
     assert_eq!(refused(LentCode { rate: 1, ..CODE }), (2, [77; 4]));
     assert_eq!(refused(LentCode { rate: 17, ..CODE }), (2, [77; 4]));
     let zero_and_pair = LentCode {
@@ -112,6 +117,7 @@ pub fn code<J: CodeJobs>() {
         ..zero_and_pair
     };
     assert_eq!(refused(pair), (6, [77; 4]));
+    deep::code::<J>();
 }
 
 /// Openings and verdicts.
@@ -147,6 +153,7 @@ pub fn opening<J: OpeningJobs>() {
     assert_eq!(verify(8, &[]), answer(21, 0, 0));
     assert_eq!(verify(9, &[0]), answer(7, 0, 0));
     second_half::<J>();
+    deep::opening::<J>();
 }
 
 /// At d = 2, c = 2 query 2 must go on at 0: an honest opening is accepted there, and a wrong word

@@ -93,7 +93,8 @@ mod tests {
             assert!(answer.number == 0 || value == 77);
             answer.number
         };
-        assert_eq!(number(17, &[p], &[]), 1);
+        assert_eq!(number(21, &[p], &[]), 1);
+        assert_eq!(number(20, &[p], &[]), 3);
         assert_eq!(number(u32::MAX, &[1], &[]), 1);
         assert_eq!(number(1, &[p], &[1]), 3);
         assert_eq!(number(1, &[p, 1], &[]), 3);

@@ -3,11 +3,11 @@
 use std::ops::Range;
 
 /// Largest depth.
-pub const MAX_DEPTH: u32 = 16;
+pub const MAX_DEPTH: u32 = 20;
 /// Smallest and largest rate.
 pub const RATES: std::ops::RangeInclusive<u32> = 2..=16;
 /// Largest table, and largest message on the way back.
-pub const MAX_TABLE: usize = 65_536;
+pub const MAX_TABLE: usize = 1_048_576;
 /// Longest query list.
 pub const MAX_QUERIES: usize = 256;
 
@@ -77,17 +77,17 @@ mod tests {
 
     #[test]
     fn largest_sizes_of_the_order() {
-        let sizes = Sizes {
-            depth: 16,
-            rate: 16,
+        let of = |depth| {
+            let sizes = Sizes { depth, rate: 16 };
+            (sizes.top_block(), sizes.opening())
         };
-        assert_eq!(sizes.top_block(), 1_048_576);
-        assert_eq!(sizes.opening(), 1_048_609);
+        assert_eq!(of(16), (1_048_576, 1_048_609));
+        assert_eq!(of(20), (16_777_216, 16_777_261));
     }
 
     #[test]
     fn levels_and_blocks_leave_no_gap() {
-        for depth in 0..=16 {
+        for depth in 0..=20 {
             for rate in 2..=16 {
                 let sizes = Sizes { depth, rate };
                 let mut place = 0;

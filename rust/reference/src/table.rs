@@ -123,7 +123,7 @@ mod tests {
     #[test]
     fn there_and_back() {
         let mut rng = Rng::new(6);
-        for depth in [0, 1, 2, 5, 11, 16] {
+        for depth in [0, 1, 2, 5, 11, 16, 20] {
             let residues = rng.residues(1 << depth, STYLES[0]);
             let table: Vec<i32> = residues
                 .iter()
@@ -151,8 +151,9 @@ mod tests {
         };
         assert_eq!(number(&[], 0), 1);
         assert_eq!(number(&[1, 2, big], 3), 1);
-        assert_eq!(number(&vec![0; 131_072], 131_072), 1);
-        assert_eq!(number(&vec![0; 65_537], 65_537), 1);
+        assert_eq!(number(&vec![0; 2_097_152], 2_097_152), 1);
+        assert_eq!(number(&vec![0; 1_048_577], 1_048_577), 1);
+        assert_eq!(number(&vec![big; 1_048_576], 1_048_576), 9);
         assert_eq!(number(&[1, big], 3), 3);
         assert_eq!(number(&[1, big], 2), 9);
         assert_eq!(number(&[1, -big], 2), 9);

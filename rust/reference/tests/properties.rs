@@ -223,7 +223,7 @@ fn a_moved_final_value_where_eq_is_zero() {
 }
 
 #[test]
-fn a_call_that_opens_the_largest_size() {
+fn a_call_that_opens_a_large_size() {
     let sizes = Sizes {
         depth: 16,
         rate: 16,

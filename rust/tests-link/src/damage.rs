@@ -2,6 +2,7 @@
 
 use crate::call::{Call, Input};
 use tvarchula_reference::sample::Rng;
+use tvarchula_reference::sizes::MAX_DEPTH;
 use tvarchula_reference::Residue;
 
 const P: u32 = Residue::MODULUS;
@@ -79,7 +80,7 @@ pub fn all(call: &Call) -> Vec<Damage> {
     let lent = &call.lent;
     let mut damages = Vec::new();
     if let Some(depth) = lent.depth {
-        let others = [17, 18, 31, 32, 33, 64, u32::MAX, 0, depth + 1];
+        let others = [20, 21, 31, 32, 33, 64, u32::MAX, 0, depth + 1];
         let lower = depth.checked_sub(1);
         damages.extend(others.into_iter().chain(lower).map(Damage::Depth));
     }
@@ -195,7 +196,7 @@ pub fn apply(call: &mut Call, damage: Damage, rng: &mut Rng) {
 fn legal_places(call: &Call) -> u32 {
     let (depth, rate) = (call.lent.depth.unwrap_or(0), call.lent.rate.unwrap_or(0));
     match depth {
-        1..=16 if rate <= 16 => rate << (depth - 1),
+        1..=MAX_DEPTH if rate <= 16 => rate << (depth - 1),
         _ => 0,
     }
 }

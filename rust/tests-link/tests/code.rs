@@ -15,7 +15,7 @@ fn compared(title: &str, sweep: impl Fn(&mut Comparison) -> sweep::Swept) -> Com
 }
 
 #[test]
-fn all_sizes_but_the_largest() {
+fn all_sizes() {
     let c = compared("code, library with reference", |c| {
         sweep::code::run(c, scale())
     });
@@ -23,10 +23,10 @@ fn all_sizes_but_the_largest() {
 }
 
 #[test]
-fn largest() {
+fn sixteen() {
     compared(
-        "code at the largest size, library with reference",
-        sweep::code::largest,
+        "code at depth 16, library with reference",
+        sweep::code::sixteen,
     );
 }
 

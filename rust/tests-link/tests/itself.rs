@@ -20,7 +20,7 @@ type Sweep = fn(&mut Comparison) -> sweep::Swept;
 #[test]
 fn ground() {
     let runner = run::ground::<Reference>;
-    let sweeps: [Sweep; 2] = [|c| sweep::ground::run(c, scale()), sweep::ground::largest];
+    let sweeps: [Sweep; 2] = [|c| sweep::ground::run(c, scale()), sweep::ground::sixteen];
     swept(
         "ground, reference with itself",
         Comparison::new(runner, runner),
@@ -31,7 +31,7 @@ fn ground() {
 #[test]
 fn code() {
     let runner = run::code::<Reference>;
-    let sweeps: [Sweep; 2] = [|c| sweep::code::run(c, scale()), sweep::code::largest];
+    let sweeps: [Sweep; 2] = [|c| sweep::code::run(c, scale()), sweep::code::sixteen];
     swept(
         "code, reference with itself",
         Comparison::new(runner, runner),
@@ -42,7 +42,7 @@ fn code() {
 #[test]
 fn opening() {
     let runner = run::opening::<Reference>;
-    let sweeps: [Sweep; 2] = [|c| sweep::opening::run(c, scale()), sweep::opening::largest];
+    let sweeps: [Sweep; 2] = [|c| sweep::opening::run(c, scale()), sweep::opening::sixteen];
     let tally = swept(
         "opening, reference with itself",
         Comparison::new(runner, runner),

@@ -3,7 +3,7 @@
 /// The modulus.
 pub const TV_MODULUS: u32 = 2_147_483_647;
 /// The largest depth.
-pub const TV_MAX_DEPTH: u32 = 16;
+pub const TV_MAX_DEPTH: u32 = 20;
 /// The smallest rate.
 pub const TV_MIN_RATE: u32 = 2;
 /// The largest rate.
@@ -11,7 +11,7 @@ pub const TV_MAX_RATE: u32 = 16;
 /// The longest query list.
 pub const TV_MAX_QUERIES: u32 = 256;
 /// The longest table.
-pub const TV_MAX_TABLE_LEN: u32 = 65_536;
+pub const TV_MAX_TABLE_LEN: u32 = 1_048_576;
 /// The largest clearance; the smallest is its negative.
 pub const TV_MAX_CLEARANCE: i32 = 1_073_741_823;
 

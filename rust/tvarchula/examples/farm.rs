@@ -43,7 +43,7 @@ fn main() -> Result<(), Box<dyn Error>> {
         patterns: number(4)?,
     };
     if !(1..=MAX_DEPTH).contains(&plan.depth) || plan.entries == 0 || plan.patterns == 0 {
-        return Err("usage: farm [depth, 1 to 16] [entries] [patterns]".into());
+        return Err(format!("usage: farm [depth, 1 to {MAX_DEPTH}] [entries] [patterns]").into());
     }
     let row = Toy(2024).row(plan.depth, RATE);
     let threads = thread::available_parallelism()?.get() as u32;

@@ -23,7 +23,8 @@ pub const MAX_CLEARANCE: i32 = tvarchula_sys::TV_MAX_CLEARANCE;
 /// ```
 /// use tvarchula::message_len;
 /// assert_eq!(message_len(3), 8);
-/// assert_eq!(message_len(17), 0); // no legal depth
+/// assert_eq!(message_len(20), 1_048_576);
+/// assert_eq!(message_len(21), 0); // no legal depth
 /// ```
 #[must_use]
 pub const fn message_len(depth: u32) -> usize {
@@ -39,7 +40,7 @@ pub const fn message_len(depth: u32) -> usize {
 /// ```
 /// use tvarchula::block_len;
 /// assert_eq!(block_len(1, 2), 4);
-/// assert_eq!(block_len(16, 16), 1_048_576);
+/// assert_eq!(block_len(20, 16), 16_777_216);
 /// assert_eq!(block_len(1, 17), 0); // no legal rate
 /// ```
 #[must_use]
@@ -75,9 +76,9 @@ pub const fn diagonals_len(depth: u32, rate: u32) -> usize {
 /// ```
 /// use tvarchula::opening_len;
 /// assert_eq!(opening_len(1, 2), 6);
-/// assert_eq!(opening_len(16, 16), 1_048_609);
+/// assert_eq!(opening_len(20, 16), 16_777_261);
 /// assert_eq!(opening_len(0, 2), 1);
-/// assert_eq!(opening_len(17, 2), 0); // no legal depth
+/// assert_eq!(opening_len(21, 2), 0); // no legal depth
 /// ```
 #[must_use]
 pub const fn opening_len(depth: u32, rate: u32) -> usize {

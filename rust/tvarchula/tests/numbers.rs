@@ -55,7 +55,9 @@ fn evaluation() {
     assert_eq!(evaluate(1, &[5, 7], &[P - 1]), Ok(P - 2));
     assert_eq!(evaluate(1, &[5, 7], &[P]), Err(Refusal::Word));
     assert_eq!(evaluate(1, &[5, 7], &[]), Err(Refusal::Length));
-    assert_eq!(evaluate(17, &[5, 7], &[3]), Err(Refusal::Depth));
+    assert_eq!(evaluate(17, &[5, 7], &[3]), Err(Refusal::Length));
+    assert_eq!(evaluate(20, &[5, 7], &[3]), Err(Refusal::Length));
+    assert_eq!(evaluate(21, &[5, 7], &[3]), Err(Refusal::Depth));
 }
 
 fn encoded<const N: usize>(code: &Code<'_>, message: &[u32]) -> Left<N, 0> {
@@ -87,9 +89,10 @@ fn code() {
     let refused = (Err(Refusal::Word), [77; 2], [77; 4]);
     assert_eq!(decoded(no_residue), refused);
     assert_eq!(folded(1), (Ok(()), [33, 33], []));
-    for level in [0, 17, u32::MAX] {
+    for level in [0, 21, u32::MAX] {
         assert_eq!(folded(level), (Err(Refusal::Depth), [77; 2], []));
     }
+    assert_eq!(folded(20), (Err(Refusal::Length), [77; 2], []));
 }
 
 #[test]
@@ -101,7 +104,8 @@ fn refusals() {
         assert_eq!(block, [77; 4]);
         result.unwrap_err()
     };
-    assert_eq!(refused(|code| code.depth = 17), Refusal::Depth);
+    assert_eq!(refused(|code| code.depth = 20), Refusal::Length);
+    assert_eq!(refused(|code| code.depth = 21), Refusal::Depth);
     assert_eq!(refused(|code| code.rate = 1), Refusal::Rate);
     assert_eq!(refused(|code| code.rate = 17), Refusal::Rate);
     assert_eq!(refused(|code| code.g = &[1]), Refusal::Length);

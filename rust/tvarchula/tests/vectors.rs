@@ -30,7 +30,7 @@ fn refusals() {
     }
     assert_eq!(coefficients_to_table_vec(&[1, 2, 3]), Err(Refusal::Depth));
     assert_eq!(coefficients_to_table_vec(&[MODULUS]), Err(Refusal::Word));
-    for depth in [17, 64, u32::MAX] {
+    for depth in [21, 64, u32::MAX] {
         let mut code = CODE;
         code.depth = depth;
         assert_eq!(encode_vec(&code, &[5, 7]), Err(Refusal::Depth));
@@ -38,27 +38,33 @@ fn refusals() {
         let refused = write_opening_vec(&code, &[5, 7], &QUESTION);
         assert_eq!(refused, Err(Refusal::Depth));
     }
-    for level in [0, 17, u32::MAX] {
+    for level in [0, 21, u32::MAX] {
         let refused = fold_vec(level, 2, CODE.t, CODE.t2, &BLOCK, 4);
         assert_eq!(refused, Err(Refusal::Depth));
     }
 }
 
+/// The largest depth at the smallest rate, and the largest rate at depth 17.
 #[test]
-fn largest_sizes() {
-    let t = vec![2; diagonals_len(MAX_DEPTH, MAX_RATE)];
-    let t2 = vec![3; diagonals_len(MAX_DEPTH, MAX_RATE)];
-    let g = [1; MAX_RATE as usize];
-    let code = Code::new(MAX_DEPTH, MAX_RATE, &g, &t, &t2);
-    let message: Vec<u32> = (0..message_len(MAX_DEPTH) as u32).collect();
+fn large_sizes() {
+    opened(20, 2, 2_097_211);
+    opened(17, 16, 2_097_188);
+}
+
+fn opened(depth: u32, rate: u32, opening_words: usize) {
+    let t = vec![2; diagonals_len(depth, rate)];
+    let t2 = vec![3; diagonals_len(depth, rate)];
+    let g = vec![1; rate as usize];
+    let code = Code::new(depth, rate, &g, &t, &t2);
+    let message: Vec<u32> = (0..message_len(depth) as u32).collect();
     let block = encode_vec(&code, &message).unwrap();
-    let point = [7; MAX_DEPTH as usize];
+    let point = vec![7; depth as usize];
     let question = Question {
         z: &point,
         r: &point,
     };
     let (opening, value) = write_opening_vec(&code, &message, &question).unwrap();
-    assert_eq!(opening.len(), 1_048_609);
+    assert_eq!(opening.len(), opening_words);
     let queries: Vec<u32> = (0..MAX_QUERIES as u32).collect();
     let verify = |y| {
         let claim = Claim {
@@ -70,6 +76,6 @@ fn largest_sizes() {
         verify_opening(&code, &block, &claim, &opening)
     };
     assert_eq!(verify(value), Ok(()));
-    let rejected = Err(VerifyError::Rejected(Failure::Sum(16)));
+    let rejected = Err(VerifyError::Rejected(Failure::Sum(depth)));
     assert_eq!(verify((value + 1) % MODULUS), rejected);
 }

@@ -1,6 +1,6 @@
 //! Compares the linked library with the reference at the largest depth and tells what each call took.
 //!
-//! `--depths 14,16` names other depths, each 1 to the largest, and then shows how the times grow;
+//! `--depths 16,20` names other depths, each 1 to the largest, and then shows how the times grow;
 //! `--rates 2,8,16` the rates. Times are those of the library's call by the wall clock.
 
 use std::ops::RangeInclusive;
@@ -11,7 +11,7 @@ use tvarchula_compare::run::any;
 use tvarchula_reference::Reference;
 use tvarchula_sys::{TV_MAX_DEPTH, TV_MAX_RATE, TV_MIN_RATE};
 
-const USAGE: &str = "usage: largest [--depths 14,16] [--rates 2,8,16]";
+const USAGE: &str = "usage: largest [--depths 16,20] [--rates 2,8,16]";
 
 fn main() -> ExitCode {
     let Some([depths, rates]) = options(std::env::args().skip(1)) else {

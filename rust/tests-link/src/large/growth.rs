@@ -9,7 +9,7 @@ pub struct Growth {
     case: Case,
     rate: Option<usize>,
     depths: [usize; 2],
-    /// The later time by the earlier.
+    /// The later least time by the earlier.
     measured: f64,
 }
 
@@ -50,7 +50,7 @@ pub fn growth(lines: &[Line]) -> Vec<Growth> {
             case: line.case,
             rate: line.rate,
             depths: [line.depth, later.depth],
-            measured: later.time.as_secs_f64() / line.time.as_secs_f64(),
+            measured: later.time.least.as_secs_f64() / line.time.least.as_secs_f64(),
         })
     };
     lines.iter().enumerate().filter_map(next).collect()
@@ -59,6 +59,7 @@ pub fn growth(lines: &[Line]) -> Vec<Growth> {
 #[cfg(test)]
 mod tests {
     use super::*;
+    use crate::large::Time;
     use std::time::Duration;
     use tvarchula_reference::Answer;
 
@@ -69,7 +70,10 @@ mod tests {
             depth,
             rate: Some(8),
             answer: Answer::DONE,
-            time: Duration::from_millis(millis),
+            time: Time {
+                median: Duration::from_secs(1),
+                least: Duration::from_millis(millis),
+            },
             lent: 0,
             stack: None,
         };

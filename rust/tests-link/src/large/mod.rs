@@ -25,8 +25,19 @@ use std::time::{Duration, Instant};
 use tvarchula_reference::sample::Rng;
 use tvarchula_reference::Answer;
 
-/// A call that takes longer is timed once, others three times.
+/// A call that takes longer is timed once.
 const LONG: Duration = Duration::from_secs(2);
+/// Others are timed until this has passed, but three times at least and 101 times at most.
+const ENOUGH: Duration = Duration::from_millis(500);
+
+/// Of the times of one call. Where others share the machine the least one says more.
+#[derive(Clone, Copy, Debug)]
+pub struct Time {
+    /// The median.
+    pub median: Duration,
+    /// The least.
+    pub least: Duration,
+}
 
 /// What one call took.
 #[derive(Clone, Copy, Debug)]
@@ -39,8 +50,8 @@ pub struct Line {
     pub rate: Option<usize>,
     /// What both sides answered.
     pub answer: Answer,
-    /// The time of the left side's call: the median of three, or the only one.
-    pub time: Duration,
+    /// The time of the left side's call.
+    pub time: Time,
     /// Bytes of all lent slices.
     pub lent: usize,
     /// Bytes of stack that the left side's call touched beyond those of reading a clearance, where this
@@ -50,7 +61,7 @@ pub struct Line {
 
 /// The heads of the lines.
 pub const HEADS: &str =
-    "depth rate job                       answer        ms  lent bytes  stack bytes";
+    "depth rate job                       answer  median ms  least ms  lent bytes  stack bytes";
 
 impl fmt::Display for Line {
     fn fmt(&self, f: &mut fmt::Formatter) -> fmt::Result {
@@ -59,10 +70,10 @@ impl fmt::Display for Line {
             Answer { number, first, .. } if number >= 20 => format!("{number} ({first})"),
             Answer { number, .. } => number.to_string(),
         };
-        let milliseconds = self.time.as_secs_f64() * 1e3;
+        let [median, least] = [self.time.median, self.time.least].map(|t| t.as_secs_f64() * 1e3);
         write!(
             f,
-            "{:>5} {:>4} {:<24} {answer:>7} {milliseconds:>9.3} {:>11} {:>12}",
+            "{:>5} {:>4} {:<24} {answer:>7} {median:>10.3} {least:>9.3} {:>11} {:>12}",
             self.depth,
             known(self.rate),
             self.case.name(),
@@ -193,7 +204,7 @@ impl Large<'_> {
         let lent = call.out.clone();
         let again = |call: &mut Call| call.out = lent.clone();
         let left = self.left;
-        let time = median(|| {
+        let time = timed(|| {
             again(&mut call);
             let start = Instant::now();
             let found = left(&mut call);
@@ -234,15 +245,18 @@ fn result(call: &Call) -> Vec<u32> {
     result.lent().to_vec()
 }
 
-/// The median of three times, or the first if it is long.
-fn median(mut time: impl FnMut() -> Duration) -> Duration {
-    let first = time();
-    if first > LONG {
-        return first;
+/// Several times, or one if it is long.
+fn timed(mut time: impl FnMut() -> Duration) -> Time {
+    let mut times = vec![time()];
+    if times[0] <= LONG {
+        let more = ENOUGH.as_nanos() / times[0].as_nanos().max(1);
+        times.extend((0..more.clamp(2, 100)).map(|_| time()));
+        times.sort();
     }
-    let mut times = [first, time(), time()];
-    times.sort();
-    times[1]
+    Time {
+        median: times[times.len() / 2],
+        least: times[0],
+    }
 }
 
 #[cfg(test)]

@@ -9,7 +9,7 @@ use tvarchula_reference::sample::Rng;
 
 const ALL: [Job; 3] = [Job::Encode, Job::Decode, Job::Fold];
 
-/// All calls of the code group but the largest.
+/// All calls of the code group to depth 12, and folds from the largest level and above.
 pub fn run(c: &mut Comparison, scale: usize) -> Swept {
     let mut rng = Rng::new(200);
     for job in ALL {
@@ -30,7 +30,7 @@ pub fn run(c: &mut Comparison, scale: usize) -> Swept {
 }
 
 /// Depths 13 to 16 and rate 16 at the last, once each, and a block of that size that is no codeword.
-pub fn largest(c: &mut Comparison) -> Swept {
+pub fn sixteen(c: &mut Comparison) -> Swept {
     let mut rng = Rng::new(201);
     for job in ALL {
         for (depth, rate) in [(13, 5), (14, 3), (15, 2)] {
@@ -118,14 +118,14 @@ fn challenges(c: &mut Comparison, count: usize, rng: &mut Rng) -> Swept {
     Ok(())
 }
 
-/// Upper levels 0, 17 and 18, with slices that would fit them, and level 16 at the smallest rate.
+/// Upper levels 0 and 21, with slices that would fit them, and levels 16, 17 and 20 at the smallest rate.
 fn fold_levels(c: &mut Comparison, rng: &mut Rng) -> Swept {
-    good(c, Job::Fold, Shape::any(16, 2, rng), rng)?;
     singles(c, Job::Fold, Shape::any(16, 2, rng), rng)?;
-    for level in [17, 18] {
-        let call = calls::formed(Job::Fold, Shape::any(level, 2, rng), rng);
-        c.check(&call)?;
+    for level in [17, 20] {
+        good(c, Job::Fold, Shape::any(level, 2, rng), rng)?;
     }
+    let call = calls::formed(Job::Fold, Shape::any(21, 2, rng), rng);
+    c.check(&call)?;
     // A block of level 0 has no halves; with an even rate its length would be two halves' length.
     let mut call = calls::formed(Job::Fold, Shape::any(1, 2, rng), rng);
     call.lent.depth = Some(0);

@@ -11,7 +11,7 @@ use tvarchula_reference::Residue;
 const TABLES: [Job; 2] = [Job::TableToCoefficients, Job::CoefficientsToTable];
 const ALL: [Job; 3] = [TABLES[0], TABLES[1], Job::Evaluate];
 
-/// All calls of the ground group but the largest.
+/// All calls of the ground group to depth 12, and table lengths to the largest and above.
 pub fn run(c: &mut Comparison, scale: usize) -> Swept {
     let mut rng = Rng::new(100);
     readings(c, 20_000 * scale, &mut rng)?;
@@ -32,7 +32,7 @@ pub fn run(c: &mut Comparison, scale: usize) -> Swept {
 }
 
 /// Depth 16, good and with every damage.
-pub fn largest(c: &mut Comparison) -> Swept {
+pub fn sixteen(c: &mut Comparison) -> Swept {
     let mut rng = Rng::new(101);
     for job in ALL {
         good(c, job, Shape::any(16, 2, &mut rng), &mut rng)?;
@@ -65,8 +65,9 @@ fn readings(c: &mut Comparison, count: usize, rng: &mut Rng) -> Swept {
 
 /// Tables of every small length and around the largest, all slices of that same length.
 fn lengths(c: &mut Comparison, job: Job, rng: &mut Rng) -> Swept {
-    let large = [127, 128, 129, 1000, 65_535, 65_536, 65_537, 98_304, 131_072];
-    for length in (0..=70).chain(large) {
+    let large = [127, 128, 129, 1000, 65_535, 65_536, 65_537, 131_072];
+    let largest = [1_048_575, 1_048_576, 1_048_577, 1_572_864, 2_097_152];
+    for length in (0..=70).chain(large).chain(largest) {
         let mut call = formed(job, Shape::any(0, 2, rng), rng);
         call.add_note(&format!("length {length}"));
         if job == Job::TableToCoefficients {

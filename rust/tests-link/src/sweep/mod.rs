@@ -9,19 +9,13 @@ use crate::compare::{Comparison, Difference};
 use crate::damage::{self, Damage};
 use crate::good::{self, Shape};
 use tvarchula_reference::sample::Rng;
-use tvarchula_reference::sizes::MAX_DEPTH;
 use tvarchula_reference::Answer;
 
 /// What a sweep returns: the first difference, if any.
 pub type Swept = Result<(), Difference>;
 
-/// How deep every run goes once for each job: 18, or the largest depth while that is less. For what is
-/// above it there is [`crate::large`].
-const DEEP: usize = if MAX_DEPTH < 18 {
-    MAX_DEPTH as usize
-} else {
-    18
-};
+/// How deep every run goes once for each job. For what is above it there is [`crate::large`].
+const DEEP: usize = 18;
 
 /// A good call of each job at that depth and the smallest rate.
 fn once_deep(c: &mut Comparison, jobs: &[Job], rng: &mut Rng) -> Swept {
@@ -93,9 +87,10 @@ fn any_shape(job: Job, deepest: usize, rng: &mut Rng) -> Shape {
     Shape::any(depth, rate, rng)
 }
 
-/// Calls whose slices fit a depth or rate that is not legal: only the number itself is wrong.
+/// Calls whose slices fit a depth or rate that is not legal: only the number itself is wrong. At depth 21
+/// the rate is small, since every slice is drawn.
 fn illegal_sizes(c: &mut Comparison, job: Job, rng: &mut Rng) -> Swept {
-    for (depth, rate) in [(17, 2), (18, 3), (2, 0), (2, 1), (2, 17), (3, 20), (17, 17)] {
+    for (depth, rate) in [(21, 2), (2, 0), (2, 1), (2, 17), (3, 20), (21, 1)] {
         let call = good::formed(job, Shape::any(depth, rate, rng), rng);
         c.check(&call)?;
     }

@@ -20,7 +20,7 @@ const SMALL: [(usize, usize); 8] = [
     (4, 2),
 ];
 
-/// All calls of the opening group but the largest.
+/// All calls of the opening group to depth 10.
 pub fn run(c: &mut Comparison, scale: usize) -> Swept {
     writing(c, scale)?;
     verifying(c, scale)
@@ -65,7 +65,7 @@ fn common(c: &mut Comparison, job: Job, scale: usize, rng: &mut Rng) -> Swept {
 }
 
 /// Depths 11 to 16 and rate 16 at the last, once each, and wrong claims of that size.
-pub fn largest(c: &mut Comparison) -> Swept {
+pub fn sixteen(c: &mut Comparison) -> Swept {
     let mut rng = Rng::new(302);
     for (depth, rate) in [(11, 7), (12, 2), (13, 3), (14, 2), (15, 2)] {
         for job in ALL {

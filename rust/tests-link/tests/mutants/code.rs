@@ -164,8 +164,12 @@ fn refuses_odd_rates(call: &mut Call) -> Answer {
     answers_instead(call, 2, |call| !call.lent.rate().is_power_of_two())
 }
 
-fn refuses_depth_16(call: &mut Call) -> Answer {
-    answers_instead(call, 1, |call| call.lent.depth() == 16)
+fn refuses_depth_20(call: &mut Call) -> Answer {
+    answers_instead(call, 1, |call| call.lent.depth() == 20)
+}
+
+fn takes_depth_21(call: &mut Call) -> Answer {
+    prefers(call, REFERENCE, 1, 3, |call| call.lent.depth() == 21)
 }
 
 fn refuses_words_of_p_minus_1(call: &mut Call) -> Answer {
@@ -206,7 +210,7 @@ fn overlooks_the_last_pair(call: &mut Call) -> Answer {
 
 #[test]
 fn code() {
-    let mutants: [(&str, Runner); 26] = [
+    let mutants: [(&str, Runner); 27] = [
         ("encodes with halves swapped", encodes_with_halves_swapped),
         (
             "encodes with T and T' swapped",
@@ -231,7 +235,8 @@ fn code() {
         ("refuses zeros in T", refuses_zeros_in_t),
         ("refuses challenges on T", refuses_challenges_on_t),
         ("refuses odd rates", refuses_odd_rates),
-        ("refuses depth 16", refuses_depth_16),
+        ("refuses depth 20", refuses_depth_20),
+        ("takes depth 21", takes_depth_21),
         ("refuses p - 1", refuses_words_of_p_minus_1),
         ("3 for folding level 0", folds_level_0_with_3),
         ("reduces words", reduces_words),
@@ -243,6 +248,6 @@ fn code() {
         }),
         ("refuses all", |_| Answer::plain(1)),
     ];
-    let sweeps: [Sweep; 2] = [|c| sweep::code::run(c, 1), sweep::code::largest];
+    let sweeps: [Sweep; 2] = [|c| sweep::code::run(c, 1), sweep::code::sixteen];
     all_found(REFERENCE, &mutants, &sweeps);
 }

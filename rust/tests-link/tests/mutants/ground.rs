@@ -106,16 +106,16 @@ fn clears_work_after_a_refusal(call: &mut Call) -> Answer {
     })
 }
 
-fn takes_a_table_of_131072(call: &mut Call) -> Answer {
-    let long = call.lent.table.as_ref().map_or(0, Vec::len) == 131_072;
-    if long && call.out.parts().result.len() == 131_072 {
+fn takes_a_table_of_2097152(call: &mut Call) -> Answer {
+    let long = call.lent.table.as_ref().map_or(0, Vec::len) == 2_097_152;
+    if long && call.out.parts().result.len() == 2_097_152 {
         return Answer::DONE;
     }
     REFERENCE(call)
 }
 
-fn refuses_a_table_of_65536(call: &mut Call) -> Answer {
-    let long = call.lent.table.as_ref().map_or(0, Vec::len) == 65_536;
+fn refuses_a_table_of_1048576(call: &mut Call) -> Answer {
+    let long = call.lent.table.as_ref().map_or(0, Vec::len) == 1_048_576;
     if long {
         return Answer::plain(1);
     }
@@ -195,8 +195,8 @@ fn ground() {
             "clears the work buffer after 4",
             clears_work_after_a_refusal,
         ),
-        ("takes a table of 131072", takes_a_table_of_131072),
-        ("refuses a table of 65536", refuses_a_table_of_65536),
+        ("takes a table of 2097152", takes_a_table_of_2097152),
+        ("refuses a table of 1048576", refuses_a_table_of_1048576),
         ("evaluates table values", evaluates_table_values),
         ("reverses the point", reverses_the_point),
         ("writes a value after 4", writes_a_value_after_a_refusal),
@@ -204,6 +204,6 @@ fn ground() {
         ("4 before 3", judges_words_before_lengths),
         ("3 for a wrong depth", judges_lengths_before_the_depth),
     ];
-    let sweeps: [Sweep; 2] = [|c| sweep::ground::run(c, 1), sweep::ground::largest];
+    let sweeps: [Sweep; 2] = [|c| sweep::ground::run(c, 1), sweep::ground::sixteen];
     all_found(REFERENCE, &mutants, &sweeps);
 }
