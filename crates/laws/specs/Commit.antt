@@ -8,7 +8,8 @@ use Rattle.algebra.specs.Words.{PrimeField}
 use Rattle.job.specs.Outcome.{done, kept, _⨾_}
 use Rattle.parameters.specs.Lent.{codeword}
 use Rattle.code.specs.Encoding.{judgeEncoding}
-use Rattle.open.specs.Writing.{judgeWriting, valueWord, openingWords}
+use Rattle.rounds.specs.Opening.{openingWords}
+use Rattle.open.specs.Writing.{judgeWriting, valueWord}
 use Rattle.verdict.specs.Verdicts.{numbers, numbersOf}
 use Rattle.verify.specs.Verifying.{queriesOk, verification}
 use Rattle.verdict.specs.declared.Verdict.{Verdict}

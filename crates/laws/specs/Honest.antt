@@ -25,7 +25,8 @@ use Rattle.words.specs.ScanLaws.{all-below}
 use Rattle.parameters.specs.Lent.{codeword}
 use Rattle.parameters.specs.Parameters.{limits, rowLengths, rowWords, legalRow}
 use Rattle.code.specs.Encoding.{encodeLengths, judgeEncoding, Encoded}
-use Rattle.open.specs.Writing.{judgeWriting, writeLengths, inputLengths, bufferLengths, inputWords, valueWord, openingWords, writtenOutcome as wrote, Wrote}
+use Rattle.rounds.specs.Opening.{openingWords}
+use Rattle.open.specs.Writing.{judgeWriting, writeLengths, inputLengths, bufferLengths, inputWords, valueWord, writtenOutcome as wrote, Wrote}
 use Rattle.open.specs.declared.Written.{Written}
 use Rattle.open.specs.declared.Written.the-variants.{Value, Refused as NotWritten}
 use Rattle.verdict.specs.Verdicts.{numbers, numbersOf}

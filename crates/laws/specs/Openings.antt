@@ -24,8 +24,9 @@ use Rattle.job.specs.Outcome.{Numbers, done, _⨾_}
 use Rattle.job.specs.Limits.{blockSize}
 use Rattle.words.specs.ScanLaws.{below-all}
 use Rattle.parameters.specs.Lent.{lent, Coding, codeword}
-use Rattle.open.specs.Laws.{length-opening}
-use Rattle.open.specs.Writing.{openingWords, valueWord}
+use Rattle.rounds.specs.Laws.{length-opening}
+use Rattle.rounds.specs.Opening.{openingWords}
+use Rattle.open.specs.Writing.{valueWord}
 use Rattle.verdict.specs.Verdicts.{numbersOf}
 use Rattle.verify.specs.Verifying.{maxQueries, openedLengths, openedWords, queriesOk, judgeVerifying, verification}
 use Rattle.laws.specs.Calls.{LegalRow}

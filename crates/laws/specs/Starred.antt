@@ -45,7 +45,8 @@ use Rattle.verdict.specs.Verdicts.{numbersOf}
 use Rattle.verify.specs.Verifying.{verification, judgeVerifying, openedLengths, openedWords, queriesOk}
 use Rattle.laws.specs.Calls.{LegalRow, foldedLevel}
 use Rattle.laws.specs.Folds.{fold-law}
-use Rattle.open.specs.Writing.{openingWords, valueWord}
+use Rattle.rounds.specs.Opening.{openingWords}
+use Rattle.open.specs.Writing.{valueWord}
 use Rattle.laws.specs.Openings.{opening-accepted, opening-fails}
 
 -- d = 1, c = 2

@@ -21,7 +21,8 @@ use Rattle.words.specs.Scans.{allBelow}
 use Rattle.words.specs.ScanLaws.{all-below}
 use Rattle.parameters.specs.Parameters.{limits, rowLengths, rowWords}
 use Rattle.parameters.specs.ParameterLaws.{within, row-lengths, lent-coding}
-use Rattle.open.specs.Writing.{inputLengths, bufferLengths, writeLengths, inputWords, judgeWriting, WriteInput}
+use Rattle.rounds.specs.Opening.{WriteInput}
+use Rattle.open.specs.Writing.{inputLengths, bufferLengths, writeLengths, inputWords, judgeWriting}
 
 module _ (𝓕 : PrimeField) where
   open PrimeField 𝓕 using (modulus as P)

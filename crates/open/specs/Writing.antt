@@ -2,21 +2,19 @@
 use mathlib.Core.Path.{_≡_}
 use mathlib.Core.Bool.{Bool, _&&_}
 use mathlib.Core.List.{List}
-use Prim.Native.Nat.{ℕ, _*_, _^_, _≤_}
+use Prim.Native.Nat.{ℕ, _*_, _^_}
 use lib.Dec.{eqb}
 use lib.ListN.{length, replicate}
 use Rattle.algebra.specs.Field.{Field}
 use Rattle.algebra.specs.Words.{Words, PrimeField}
-use Rattle.algebra.specs.WordLists.{Low, elements, toWords}
+use Rattle.algebra.specs.WordLists.{elements}
 use Rattle.basefold.specs.Layout.{openingSize}
-use Rattle.basefold.specs.Written.{opening}
 use Rattle.job.specs.Outcome.{Outcome, refused, done, _⨾_, kept, due}
-use Rattle.job.specs.Limits.{maxDepth, maxRate}
 use Rattle.multilinear.specs.Polynomial.{poly}
 use Rattle.residue.specs.declared.Residue.{Residue}
 use Rattle.words.specs.Scans.{allBelow}
-use Rattle.parameters.specs.Lent.{lent, Coding}
 use Rattle.parameters.specs.Parameters.{rowLengths, rowWords, judgeRow}
+use Rattle.rounds.specs.Opening.{openingWords}
 use Rattle.open.specs.declared.Written.{Written}
 use Rattle.open.specs.declared.Written.the-variants.{Value, Refused}
 
@@ -37,7 +35,7 @@ unfoldable pub writeLengths : ℕ → ℕ → ℕ → ℕ → ℕ → ℕ → �
 writeLengths d c g t t' m z r o s = rowLengths d c g t t' && (inputLengths d m z r && bufferLengths d c o s)
 
 module _ (𝓕 : PrimeField) where
-  open PrimeField 𝓕 using (modulus as P, field as F, words as W)
+  open PrimeField 𝓕 using (field as F, words as W)
   open Field F using (ring as K)
   open Words W using (val as word)
 
@@ -49,35 +47,18 @@ module _ (𝓕 : PrimeField) where
   judgeWriting d c g t t' m z r o s =
       judgeRow d c g t t' (writeLengths d c (length g) (length t) (length t') (length m) (length z) (length r) o s) (rowWords 𝓕 g t t' && inputWords m z r)
 
-  -- the words of f(z), and of the opening
+  -- the word of f(z)
   abbrev pub valueWord : List ℕ → List ℕ → ℕ
   valueWord m z = word (poly K (elements 𝓕 m) (elements 𝓕 z))
-
-  abbrev pub openingWords : List ℕ → List ℕ → List ℕ → List ℕ → List ℕ → List ℕ → List ℕ
-  openingWords g t t' m z r = toWords 𝓕 (opening F 0 (lent 𝓕 g t t') (elements 𝓕 m) (elements 𝓕 z) (elements 𝓕 r))
 
   -- answer a, opening o' and work s': refused as above, and both as they were; or f(z), the opening as it is defined, and zeros
   pub record Wrote (d c : ℕ) (g t t' m z r o s : List ℕ) (a : Written) (o' s' : List ℕ) : Type 0 where
     pub answer : writtenOutcome a ≡ judgeWriting d c g t t' m z r (length o) (length s) ⨾ done (valueWord m z)
-    pub result : o' ≡ kept (judgeWriting d c g t t' m z r (length o) (length s)) o (openingWords g t t' m z r)
+    pub result : o' ≡ kept (judgeWriting d c g t t' m z r (length o) (length s)) o (openingWords 𝓕 g t t' m z r)
     pub work : s' ≡ kept (judgeWriting d c g t t' m z r (length o) (length s)) s (replicate (length s) 0)
-
-  -- what the work is lent: exact lengths, words below the modulus, a legal row and diagonals
-  pub record WriteInput (d : ℕ) (g t t' m z r : List ℕ) (o s : ℕ) : Type 0 where
-    pub deep : d ≤ maxDepth
-    pub wide : length g ≤ maxRate
-    pub coding : Coding 𝓕 d g t t'
-    pub message : length m ≡ 2 ^ d
-    pub point : length z ≡ d
-    pub challenges : length r ≡ d
-    pub message-low : Low P m
-    pub point-low : Low P z
-    pub challenges-low : Low P r
-    pub opens : o ≡ openingSize (length g) 0 d
-    pub room : s ≡ 2 * 2 ^ d
 
   -- what the work leaves: the value v, the opening o' and the work buffer s' of n words
   pub record WriteResult (g t t' m z r : List ℕ) (n : ℕ) (v : Residue) (o' s' : List ℕ) : Type 0 where
     pub value : v .0 ≡ valueWord m z
-    pub opened : o' ≡ openingWords g t t' m z r
+    pub opened : o' ≡ openingWords 𝓕 g t t' m z r
     pub cleared : s' ≡ replicate n 0

@@ -1,13 +1,13 @@
 // Writing an opening.
 ghost use lib.ListN.{length};
 ghost use Rattle.algebra.specs.Words.{𝔽₁};
-ghost use Rattle.open.specs.Writing.{WriteInput, WriteResult, Wrote};
+ghost use Rattle.rounds.specs.Opening.{WriteInput};
+ghost use Rattle.open.specs.Writing.{WriteResult, Wrote};
 use job::Answer;
 use job::Refusal;
 use residue::Residue;
 
 mod judge;
-mod rounds;
 
 // The polynomial's value at the point.
 pub enum Written {

@@ -1,7 +1,7 @@
 use mathlib.Core.Path.{refl, ap, _∙_}
 use lib.ListN.{replicate}
 use Rattle.algebra.specs.Words.{𝔽₁}
-use Rattle.open.specs.Writing.{openingWords}
+use Rattle.rounds.specs.Opening.{openingWords}
 use Rattle.open.proofs.Judged.{value-input, rounds-input, final-within, begun}
 use borrow.Author.Needs.{needs}
 use Rattle.open.proofs.write_words.Statement.{statement}

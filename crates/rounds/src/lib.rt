@@ -7,8 +7,8 @@ ghost use Rattle.algebra.specs.Words.{𝔽₁};
 ghost use Rattle.algebra.specs.Lists.{put};
 ghost use Rattle.basefold.specs.Layout.{finalAt, blockAt};
 ghost use Rattle.parameters.specs.Lent.{codeword};
-ghost use Rattle.open.specs.Rounds.{BlockInput, RoundInput, RoundResult};
-ghost use Rattle.open.specs.Writing.{openingWords, WriteInput};
+ghost use Rattle.rounds.specs.Rounds.{BlockInput, RoundInput, RoundResult};
+ghost use Rattle.rounds.specs.Opening.{openingWords, WriteInput};
 use residue::Residue;
 
 // The blocks below this level are so short that encoding takes less time than a fold with its one inversion.

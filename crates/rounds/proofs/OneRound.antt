@@ -22,8 +22,8 @@ use Rattle.parameters.specs.Lent.{lent, diagonal, codeword}
 use Rattle.residue.specs.declared.Residue.{Residue}
 use Rattle.steps.specs.Steps.{leftOf, sentWords, TakeChallengeResult}
 use Rattle.steps.specs.StepLaws.{length-leftOf, front-is}
-use Rattle.open.specs.Rounds.{Follows, BlockInput, RoundInput, RoundResult}
-use Rattle.open.proofs.Agreement.{drop-put}
+use Rattle.rounds.specs.Rounds.{Follows, BlockInput, RoundInput, RoundResult}
+use Rattle.rounds.proofs.Agreement.{drop-put}
 
 module _ (𝓕 : PrimeField) where
   open PrimeField 𝓕 using (field as F, words as W)

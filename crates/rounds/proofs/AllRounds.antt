@@ -35,10 +35,10 @@ use Rattle.residue.specs.ResidueLaws.{is-low, stands}
 use Rattle.steps.specs.Steps.{values, roundOf, leftOf, sentWords}
 use Rattle.steps.specs.StepLaws.{length-leftOf, front-is}
 use Rattle.steps.specs.SentLaws.{h-left}
-use Rattle.open.specs.Laws.{length-opening}
-use Rattle.open.specs.Rounds.{RoundInput, RoundResult}
-use Rattle.open.specs.Writing.{openingWords, WriteInput}
-use Rattle.open.proofs.Agreement.{Agrees, agrees-none, agrees-below, agrees-above, agrees-more, length-put}
+use Rattle.rounds.specs.Laws.{length-opening}
+use Rattle.rounds.specs.Rounds.{RoundInput, RoundResult}
+use Rattle.rounds.specs.Opening.{openingWords, WriteInput}
+use Rattle.rounds.proofs.Agreement.{Agrees, agrees-none, agrees-below, agrees-above, agrees-more, length-put}
 
 module _ (𝓕 : PrimeField) where
   infixl 70 _⊠_

@@ -3,9 +3,9 @@ use Prim.Native.Nat.{_-_, _^_}
 use native.Mathlib.Omega.{arith}
 use lib.ListN.{take}
 use Rattle.algebra.specs.Words.{𝔽₁}
-use Rattle.open.proofs.AllRounds.{BeforeRound, before-first, round-input, before-next, after-last}
-use Rattle.open.proofs.rounds.rounds.Statement.{statement}
-use Rattle.open.proofs.rounds.rounds.Tie as tie
+use Rattle.rounds.proofs.AllRounds.{BeforeRound, before-first, round-input, before-next, after-last}
+use Rattle.rounds.proofs.rounds.Statement.{statement}
+use Rattle.rounds.proofs.rounds.Tie as tie
 
 abbrev Inv-loop : tie.InvT-loop
 Inv-loop depth g t t2 z r opening₀ work₀ w₀ i₀ opening work w i = BeforeRound 𝔽₁ depth g t t2 (take (2 ^ depth) work₀) z r i w opening work

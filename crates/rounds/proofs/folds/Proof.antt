@@ -1,7 +1,7 @@
 use mathlib.Core.Bool.{false≢true}
 use borrow.Author.Needs.{needs}
-use Rattle.open.proofs.rounds.folds.Statement.{statement}
-use Rattle.open.proofs.rounds.folds.Tie as tie
+use Rattle.rounds.proofs.folds.Statement.{statement}
+use Rattle.rounds.proofs.folds.Tie as tie
 
 returns : tie.Need-returns
 returns c = λ e. absurd (false≢true e)

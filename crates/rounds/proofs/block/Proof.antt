@@ -1,8 +1,8 @@
 use Rattle.algebra.specs.Words.{𝔽₁}
-use Rattle.open.proofs.OneRound.{fold-input, fold-given}
+use Rattle.rounds.proofs.OneRound.{fold-input, fold-given}
 use borrow.Author.Needs.{needs}
-use Rattle.open.proofs.rounds.block.Statement.{statement}
-use Rattle.open.proofs.rounds.block.Tie as tie
+use Rattle.rounds.proofs.block.Statement.{statement}
+use Rattle.rounds.proofs.block.Tie as tie
 
 folds-requires : tie.Need-folds-requires
 folds-requires c κs = search needs

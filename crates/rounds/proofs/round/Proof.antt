@@ -1,8 +1,8 @@
 use Rattle.algebra.specs.Words.{𝔽₁}
-use Rattle.open.proofs.OneRound.{block-input, round-result}
+use Rattle.rounds.proofs.OneRound.{block-input, round-result}
 use borrow.Author.Needs.{needs}
-use Rattle.open.proofs.rounds.round.Statement.{statement}
-use Rattle.open.proofs.rounds.round.Tie as tie
+use Rattle.rounds.proofs.round.Statement.{statement}
+use Rattle.rounds.proofs.round.Tie as tie
 
 give-round-requires : tie.Need-give-round-requires
 give-round-requires c κs = search needs
