@@ -18,6 +18,7 @@ use Rattle.algebra.specs.Vector.{Vectors, vectors}
 use Rattle.algebra.specs.Words.{Words, PrimeField}
 use Rattle.algebra.specs.WordLaws.{el-apart}
 use Rattle.algebra.specs.WordLists.{Low, low-words, elements, toWords, length-elements, length-words, getD-elements, getD-words, elements-words, words-elements}
+use Rattle.algebra.specs.Tests.{allSame, is-same}
 use Rattle.foldable.specs.Code.{encode, Legal}
 use Rattle.foldable.specs.Decode.{decode, rowDecoder}
 use Rattle.foldable.specs.Encode.{length-encode}
@@ -28,8 +29,6 @@ use Rattle.foldable.specs.OneColumn.{oneColumn, lift-column}
 use Rattle.job.specs.Limits.{maxMessage, blockSize}
 use Rattle.job.specs.LimitLaws.{power-most}
 use Rattle.residue.specs.declared.Residue.{Residue}
-use Rattle.words.specs.Scans.{allSame}
-use Rattle.words.specs.ScanLaws.{is-same}
 use Rattle.parameters.specs.Lent.{lent, codeword}
 use Rattle.undo.specs.Steps.{DecodeInput, decoded}
 use Rattle.columns.specs.Steps.{lentColumn, ScaleLent, ColumnLent, MessageLent}

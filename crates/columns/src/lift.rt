@@ -4,11 +4,11 @@ ghost use Prim.Native.Nat.{_^_, _<_, _≤_};
 ghost use lib.ListN.{length};
 ghost use Rattle.algebra.specs.Words.{𝔽₁};
 ghost use Rattle.algebra.specs.WordLists.{elements, toWords};
+ghost use Rattle.algebra.specs.Tests.{allSame};
 ghost use Rattle.foldable.specs.Every.{every};
 ghost use Rattle.foldable.specs.Lift.{lift as lifted};
 ghost use Rattle.job.specs.Limits.{maxDepth, maxRate, blockSize};
 ghost use Rattle.residue.specs.Residues.{F};
-ghost use Rattle.words.specs.Scans.{allSame};
 ghost use Rattle.columns.specs.Steps.{ColumnHalfIs, ColumnLent, lentColumn};
 use crate::places;
 

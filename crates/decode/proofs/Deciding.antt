@@ -8,11 +8,10 @@ use native.Mathlib.Omega.{arith}
 use lib.ListN.{length, take}
 use Rattle.algebra.specs.Words.{PrimeField}
 use Rattle.algebra.specs.WordLists.{Low, low-words, elements, toWords, length-elements, length-words, elements-words, words-elements}
+use Rattle.algebra.specs.Tests.{allSame, same-is, is-same}
 use Rattle.foldable.specs.Code.{encode, Codeword}
 use Rattle.foldable.specs.Decode.{decodes, length-decode}
 use Rattle.foldable.specs.Encode.{length-encode}
-use Rattle.words.specs.Scans.{allSame}
-use Rattle.words.specs.ScanLaws.{same-is, is-same}
 use Rattle.parameters.specs.Lent.{lent, codeword}
 use Rattle.undo.specs.Steps.{DecodeInput, decoded}
 use Rattle.job.specs.declared.Answer.the-variants.{Done, Refused}

@@ -5,7 +5,7 @@ use mathlib.Core.List.{List}
 use Prim.Native.Nat.{ℕ, _^_}
 use lib.ListN.{length, take}
 use Rattle.algebra.specs.Words.{PrimeField}
-use Rattle.words.specs.Scans.{allSame}
+use Rattle.algebra.specs.Tests.{allSame}
 use Rattle.parameters.specs.Lent.{codeword}
 use Rattle.undo.specs.Steps.{DecodeInput, decoded}
 

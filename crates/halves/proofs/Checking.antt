@@ -11,12 +11,12 @@ use lib.Seq.{take-take, getD-take}
 use Rattle.algebra.specs.Flags.{stops, goes}
 use Rattle.algebra.specs.Words.{Words, PrimeField}
 use Rattle.algebra.specs.WordLists.{Low as LowWords, low-take, elements, toWords}
+use Rattle.algebra.specs.Tests.{allSame}
 use Rattle.foldable.specs.Encode.{double}
 use Rattle.foldable.specs.Unique.{encode-word}
 use Rattle.job.specs.Limits.{blockSize}
 use Rattle.residue.specs.declared.Residue.{Residue}
 use Rattle.residue.specs.Elements.{elem}
-use Rattle.words.specs.Scans.{allSame}
 use Rattle.parameters.specs.Lent.{codeword}
 use Rattle.parameters.specs.LentLaws.{coding-below}
 use Rattle.code.specs.Steps.{times}

@@ -10,7 +10,7 @@ use native.Mathlib.Omega.{arith}
 use lib.ListN.{length, length-append}
 use Rattle.algebra.specs.Ring.{Ring}
 use Rattle.algebra.specs.Field.{Field}
-use Rattle.algebra.specs.Tests.{and-both}
+use Rattle.algebra.specs.Tests.{and-both, allSame, same-is, is-same}
 use Rattle.algebra.specs.Vector.{Vectors, vectors}
 use Rattle.algebra.specs.Words.{PrimeField}
 use Rattle.algebra.specs.WordLists.{Low, low-append, low-words, elements, toWords, length-elements, length-words, elements-words, words-elements, elements-append}
@@ -18,8 +18,6 @@ use Rattle.foldable.specs.Code.{encode, size}
 use Rattle.foldable.specs.Encode.{double, length-encode}
 use Rattle.foldable.specs.Peel.{peel, peel-encode}
 use Rattle.job.specs.Limits.{blockSize}
-use Rattle.words.specs.Scans.{allSame}
-use Rattle.words.specs.ScanLaws.{same-is, is-same}
 use Rattle.parameters.specs.Lent.{lent, diagonal, codeword, Coding}
 use Rattle.parameters.specs.LentLaws.{coding-below, length-diagonal}
 use Rattle.halves_step.specs.Steps.{peeled, raised}

@@ -11,10 +11,10 @@ use lib.Seq.{take-add, take-take, drop-drop, take-all, length-take-le}
 use borrow.Rule.Slice.PartMut.{putMid}
 use Rattle.algebra.specs.WordLists.{Low, low-take, low-drop, low-append, low-words}
 use Rattle.algebra.specs.Words.{PrimeField}
+use Rattle.algebra.specs.Tests.{allSame}
 use Rattle.foldable.specs.Encode.{double}
 use Rattle.job.specs.Limits.{maxDepth, maxRate, blockSize, diagonalsSize, maxBlock}
 use Rattle.job.specs.LimitLaws.{power-most, product-most}
-use Rattle.words.specs.Scans.{allSame}
 use Rattle.parameters.specs.Lent.{diagonal, codeword, Coding}
 use Rattle.parameters.specs.LentLaws.{coding-below, length-diagonal, level-end}
 use Rattle.halves_step.specs.Steps.{peeled, raised, LentPeel, FrontPeel, Peeled, CodeLent, RightWritten}

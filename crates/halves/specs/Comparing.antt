@@ -6,8 +6,8 @@ use Prim.Native.Nat.{ℕ, _^_, _≤_}
 use lib.ListN.{length, take}
 use Rattle.algebra.specs.Words.{PrimeField}
 use Rattle.algebra.specs.WordLists.{Low}
+use Rattle.algebra.specs.Tests.{allSame}
 use Rattle.job.specs.Limits.{maxDepth, maxRate, blockSize}
-use Rattle.words.specs.Scans.{allSame}
 use Rattle.parameters.specs.Lent.{Coding, codeword}
 
 module _ (𝓕 : PrimeField) where

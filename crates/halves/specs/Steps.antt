@@ -8,10 +8,10 @@ use Rattle.algebra.specs.Ring.{Ring}
 use Rattle.algebra.specs.Field.{Field}
 use Rattle.algebra.specs.Words.{PrimeField}
 use Rattle.algebra.specs.WordLists.{Low as LowWords, elements, toWords}
+use Rattle.algebra.specs.Tests.{allSame}
 use Rattle.job.specs.Limits.{maxDepth, maxRate, blockSize, diagonalsSize}
 use Rattle.residue.specs.declared.Residue.{Residue}
 use Rattle.residue.specs.Elements.{Low}
-use Rattle.words.specs.Scans.{allSame}
 use Rattle.parameters.specs.Lent.{Coding, codeword}
 use Rattle.code.specs.Steps.{times}
 

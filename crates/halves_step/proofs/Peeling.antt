@@ -11,10 +11,9 @@ use Rattle.algebra.specs.Ring.{Ring}
 use Rattle.algebra.specs.Field.{Field}
 use Rattle.algebra.specs.Filling.{Filled, filled-none, filled-turn, filled-end, filled-old, filled-new, filled-length}
 use Rattle.algebra.specs.Lists.{zip, length-zip, getD-zip}
-use Rattle.algebra.specs.Tests.{all₂-none, all₂-turn, all₂-end}
+use Rattle.algebra.specs.Tests.{all₂-none, all₂-turn, all₂-end, allSame}
 use Rattle.algebra.specs.Words.{Words, PrimeField}
 use Rattle.algebra.specs.WordLists.{elements, toWords, length-elements, length-words, getD-elements, getD-words}
-use Rattle.words.specs.Scans.{allSame}
 use Rattle.halves_step.specs.Steps.{peeled, raised, LentPeel, FrontPeel, Peeled}
 
 -- of a block in front of w, with the codeword behind it

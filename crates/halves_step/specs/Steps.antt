@@ -8,10 +8,10 @@ use Rattle.algebra.specs.Field.{Field}
 use Rattle.algebra.specs.Vector.{Vectors, vectors}
 use Rattle.algebra.specs.Words.{PrimeField}
 use Rattle.algebra.specs.WordLists.{Low, elements, toWords}
+use Rattle.algebra.specs.Tests.{allSame}
 use Rattle.foldable.specs.Lift.{spread}
 use Rattle.foldable.specs.Peel.{peel}
 use Rattle.job.specs.Limits.{maxDepth, blockSize}
-use Rattle.words.specs.Scans.{allSame}
 use Rattle.parameters.specs.Lent.{Coding, codeword}
 
 module _ (𝓕 : PrimeField) where

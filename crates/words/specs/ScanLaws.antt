@@ -6,25 +6,18 @@ use Prim.Native.Nat.{ℕ, zero, suc, _-_, _<_, _≤_}
 use native.Mathlib.Omega.{arith}
 use lib.Dec.{ltb, eqb}
 use lib.ListN.{length, getD, take, drop, length-drop}
-use lib.Seq.{take-all, ext-getD}
-use borrow.Author.Tests.{lt-ltb, ltb-true, not-true, eqb-false, eqb-true, eq-eqb}
-use Rattle.algebra.specs.Tests.{all, all₂, all-at, all-of, all₂-at, all₂-of, all₂-end}
+use lib.Seq.{take-all}
+use borrow.Author.Tests.{lt-ltb, ltb-true, not-true, eqb-false}
+use Rattle.algebra.specs.Tests.{all, all₂, all-at, all-of, all₂-at, all₂-end}
 use Rattle.algebra.specs.WordLists.{Low}
 use Rattle.algebra.specs.Words.{PrimeField}
-use Rattle.words.specs.Scans.{allBelow, noneZero, allDiffer, allSame, PlacesScanned, PairScanned}
+use Rattle.words.specs.Scans.{allBelow, noneZero, allDiffer, PlacesScanned, PairScanned}
 
 pub none-zero : (ws : List ℕ) → noneZero ws ≡ true → (k : ℕ) → k < length ws → getD ws k 0 ≡ 0 → ⊥
 none-zero ws e k h = eqb-false _ _ (not-true _ (all-at (λ x. not (eqb x 0)) ws 0 e k h))
 
 pub all-differ : (ws vs : List ℕ) → allDiffer ws vs ≡ true → (k : ℕ) → k < length ws → k < length vs → getD ws k 0 ≡ getD vs k 0 → ⊥
 all-differ ws vs e k h l = eqb-false _ _ (not-true _ (all₂-at (λ x y. not (eqb x y)) ws vs 0 e k h l))
-
--- two lists of one length are the same exactly where the test says so
-pub same-is : (ws vs : List ℕ) → length ws ≡ length vs → allSame ws vs ≡ true → ws ≡ vs
-same-is ws vs l e = ext-getD 0 ws vs l (λ k h. eqb-true _ _ (all₂-at eqb ws vs 0 e k h (omega arith)))
-
-pub is-same : (ws vs : List ℕ) → ws ≡ vs → allSame ws vs ≡ true
-is-same ws vs e = all₂-of eqb ws vs 0 (λ k h l. eq-eqb _ _ (ap (λ x. getD x k 0) e))
 
 and-false : (a : Bool) → (a && false) ≡ false
 and-false true = refl

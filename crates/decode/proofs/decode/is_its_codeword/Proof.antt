@@ -1,7 +1,7 @@
 use Rattle.algebra.specs.Words.{𝔽₁}
+use Rattle.algebra.specs.Tests.{allSame}
 use Rattle.decode.proofs.Deciding.{by-halves}
 use Rattle.parameters.specs.Lent.{codeword}
-use Rattle.words.specs.Scans.{allSame}
 use native.Mathlib.Omega.{arith}
 use mathlib.Core.Path.{refl, ap, _∙_}
 use borrow.Author.Needs.{needs}

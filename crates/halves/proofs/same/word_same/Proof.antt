@@ -3,11 +3,10 @@ use Prim.Native.Nat.{_-_, _≤_}
 use native.Mathlib.Omega.{arith}
 use lib.Dec.{eqb}
 use lib.ListN.{length, take, getD}
-use Rattle.algebra.specs.Tests.{all₂-none, all₂-turn, all₂-end}
+use Rattle.algebra.specs.Tests.{all₂-none, all₂-turn, all₂-end, allSame}
 use Rattle.algebra.specs.Words.{𝔽₁}
 use Rattle.algebra.specs.WordLists.{elements, toWords}
 use Rattle.residue.specs.Residues.{elem}
-use Rattle.words.specs.Scans.{allSame}
 use Rattle.code.specs.Steps.{times}
 use Rattle.code.proofs.Spreads.{length-scaled, scaled-at}
 use Rattle.halves.proofs.same.word_same.Statement.{statement}

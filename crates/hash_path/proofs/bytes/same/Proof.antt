@@ -5,20 +5,20 @@ use native.Mathlib.Omega.{arith}
 use lib.Dec.{eqb}
 use lib.ListN.{length, take}
 use borrow.Author.Tests.{eq-eqb, ne-eqb}
-use Rattle.algebra.specs.Tests.{all₂, all₂-none, all₂-turn, all₂-end}
+use Rattle.algebra.specs.Tests.{allSame, all₂-none, all₂-turn, all₂-end}
 use Rattle.hash_path.specs.Same.{sameBytes}
 use Rattle.hash_path.proofs.bytes.same.Statement.{statement}
 use Rattle.hash_path.proofs.bytes.same.Tie as tie
 
 abbrev Inv-loop : tie.InvT-loop
-Inv-loop a b ok₀ i₀ ok i = (i ≤ length a) × (length a ≡ length b) × (ok ≡ all₂ eqb (take i a) (take i b))
+Inv-loop a b ok₀ i₀ ok i = (i ≤ length a) × (length a ≡ length b) × (ok ≡ allSame (take i a) (take i b))
 
 abbrev μ-loop : tie.MeasureT-loop
 μ-loop a b ok₀ i₀ ok i = length a - i
 
 returns : tie.Need-returns Inv-loop μ-loop
 unfolding sameBytes
-returns c = let a = c .before .args in sym (ap (λ t. t && all₂ eqb (a .a .now) (a .b .now)) (ne-eqb (length (a .a .now)) (length (a .b .now)) (λ e. omega arith)))
+returns c = let a = c .before .args in sym (ap (λ t. t && allSame (a .a .now) (a .b .now)) (ne-eqb (length (a .a .now)) (length (a .b .now)) (λ e. omega arith)))
 
 loop-holds : tie.Need-loop-holds Inv-loop μ-loop
 loop-holds c = let a = c .before .args in (omega arith, omega arith, all₂-none eqb (a .a .now) (a .b .now))
@@ -47,7 +47,7 @@ returns-2 c =
     let l = c .before .loop in
     let a = c .before .before .before .args in
     all₂-end eqb (l .i) (a .a .now) (a .b .now) (λ h k. omega arith) (l .inv .2)
-    ∙ sym (ap (λ t. t && all₂ eqb (a .a .now) (a .b .now)) (eq-eqb (length (a .a .now)) (length (a .b .now)) (l .inv .1)))
+    ∙ sym (ap (λ t. t && allSame (a .a .now) (a .b .now)) (eq-eqb (length (a .a .now)) (length (a .b .now)) (l .inv .1)))
 
 pub same-spec : {M : Type 1} → statement M
 same-spec =
