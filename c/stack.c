@@ -13,7 +13,7 @@
 #define RATE 4
 #endif
 
-enum { DEPTH = TV_MAX_DEPTH, STACK = 1 << 18, PAINT = 0xa5, LIMIT = 4096 };
+enum { DEPTH = TV_MAX_DEPTH, STACK = 1 << 18, PAINT = 0xa5, LIMIT = 4608 };
 
 #define MESSAGE TV_MESSAGE_LEN(DEPTH)
 #define BLOCK TV_BLOCK_LEN(DEPTH, RATE)

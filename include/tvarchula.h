@@ -1,7 +1,7 @@
 /* Tvarchula: a BaseFold commitment over the integers modulo 2147483647.
  *
  * One function for each job, over the static library libtvarchula.a. The archive is for x86-64 with SSE2. It wants memset and nothing
- * else, has no data of its own, and takes less than 4 KiB of stack at depth 20, where c/stack.c measures it: count on 8 KiB.
+ * else, has no data of its own, and takes less than 4.5 KiB of stack at depth 20, where c/stack.c measures it: count on 8.
  *
  * Every function answers on any input and keeps no state: any number of threads may call it at once. All memory is lent by the caller;
  * the library allocates nothing and keeps no pointer.

@@ -8,7 +8,7 @@ use Rattle.algebra.specs.Ring.{Ring}
 use Rattle.algebra.specs.Field.{Field}
 use Rattle.algebra.specs.Words.{PrimeField}
 use Rattle.algebra.specs.WordLists.{Low as LowWords, elements}
-use Rattle.basefold.specs.Layout.{finalAt}
+use Rattle.basefold.specs.Layout.{finalAt, sent}
 use Rattle.basefold.specs.Checks.{Check, sumCheck, firstFailure, sumsFrom}
 use Rattle.residue.specs.Elements.{Low, elem}
 use Rattle.residue.specs.declared.Residue.{Residue}
@@ -16,9 +16,10 @@ use Rattle.claims.specs.declared.sums.Claimed.{Claimed}
 use Rattle.claims.specs.declared.sums.Claimed.the-variants.{Last, Fails}
 
 module _ (𝓕 : PrimeField) where
+  infixl 65 _⊞_
   open PrimeField 𝓕 using (modulus as P, field as F)
   open Field F using (ring as K)
-  open Ring K using (R as Element)
+  open Ring K using (R as Element, _+_ as _⊞_)
 
   -- an opening that holds h_i
   pub record RoundSent (d i : ℕ) (o : List ℕ) : Type 0 where
@@ -26,6 +27,10 @@ module _ (𝓕 : PrimeField) where
     pub level : i ≤ d
     pub long : finalAt d < length o
     pub low : LowWords P o
+
+  -- h_i at 0 and at 1, summed
+  abbrev pub roundSum : ℕ → ℕ → List ℕ → Element
+  roundSum d i o = sent F (elements 𝓕 o) d i 0 ⊞ sent F (elements 𝓕 o) d i 1
 
   -- challenges with r_(i-1) among them
   pub record ChallengeSent (i : ℕ) (r : List ℕ) : Type 0 where

@@ -9,15 +9,17 @@ use Rattle.job.specs.Outcome.{refused, done}
 use Rattle.job.specs.OutcomeLaws.{stop, pass}
 use Rattle.residue.specs.declared.Residue.{Residue}
 use Rattle.residue.specs.declared.Parsed.the-variants.{Residue as Is, TooLarge}
-use Rattle.residue.specs.Residues.{P, parsed, parsedBy}
+use Rattle.algebra.specs.Words.{𝔽₁}
+use Rattle.residue.specs.Residues.{P}
+use Rattle.residue.specs.Elements.{parsed, parsedBy}
 use Rattle.clearance.specs.Clearances.{border, meaning, free, contact, overlap}
 use Rattle.clearance.specs.ClearanceLaws.{clearance-pos, clearance-negsuc}
 use Rattle.clearance.specs.Reading.{reading}
 
-pub no-residue : (w : ℕ) → TooLarge ≡ parsed w → refused (4, 0, 0) ≡ reading w
+pub no-residue : (w : ℕ) → TooLarge ≡ parsed 𝔽₁ w → refused (4, 0, 0) ≡ reading w
 no-residue w e = go (ltb w P) refl e
   where
-    go : (b : Bool) → ltb w P ≡ b → TooLarge ≡ parsedBy b w → refused (4, 0, 0) ≡ reading w
+    go : (b : Bool) → ltb w P ≡ b → TooLarge ≡ parsedBy 𝔽₁ b w → refused (4, 0, 0) ≡ reading w
     go true p q = absurd (let z : _≡_ {A = ℕ} 0 1 = cc in omega arith)
     go false p q = stop _ p
 
@@ -26,10 +28,10 @@ pub record Same (w v : ℕ) : Type 0 where
   pub is : v ≡ w
   pub low : w < P
 
-pub a-residue : (w : ℕ) (r : Residue) → Is r ≡ parsed w → Same w (r .0)
+pub a-residue : (w : ℕ) (r : Residue) → Is r ≡ parsed 𝔽₁ w → Same w (r .0)
 a-residue w r e = go (ltb w P) refl e
   where
-    go : (b : Bool) → ltb w P ≡ b → Is r ≡ parsedBy b w → Same w (r .0)
+    go : (b : Bool) → ltb w P ≡ b → Is r ≡ parsedBy 𝔽₁ b w → Same w (r .0)
     go true p q = let s : r ≡ record { 0 = w } = cc in record { is = ap (λ x. x .0) s; low = ltb-true w P p }
     go false p q = absurd (let z : _≡_ {A = ℕ} 0 1 = cc in omega arith)
 

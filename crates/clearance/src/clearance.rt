@@ -4,6 +4,7 @@ ghost use mathlib.Core.Bool.{true};
 ghost use Rattle.residue.specs.Residues.{Low};
 ghost use Rattle.clearance.specs.Clearances.{inRange, residueOf, clearanceOf};
 use crate::MAX_CLEARANCE;
+use residue::Field;
 use residue::Residue;
 
 pub fn in_range(x: i32) -> bool
@@ -17,9 +18,9 @@ pub fn to_residue(x: i32) -> Residue
     ensures { λ r. ⌜ r .0 ≡ residueOf x ⌝ }
 {
     if x < 0 {
-        Residue::new(Residue::MODULUS - ((-x) as u32))
+        Residue::new(Residue::MODULUS - ((-x) as u32), Field::First)
     } else {
-        Residue::new(x as u32)
+        Residue::new(x as u32, Field::First)
     }
 }
 

@@ -2,6 +2,7 @@
 ghost use mathlib.Core.Path.{_≡_};
 ghost use Rattle.clearance.specs.Reading.{reading, readingOutcome};
 use job::Refusal;
+use residue::Field;
 use residue::Parsed;
 use residue::Residue;
 
@@ -16,7 +17,7 @@ pub enum Reading {
 pub fn read_clearance(word: u32) -> Reading
     ensures { λ r. ⌜ readingOutcome r ≡ reading word ⌝ }
 {
-    let r = match Residue::from_word(word) {
+    let r = match Residue::from_word(word, Field::First) {
         Parsed::Residue(r) => r,
         Parsed::TooLarge => return Reading::Refused(Refusal::Word),
     };

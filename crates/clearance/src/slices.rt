@@ -8,6 +8,7 @@ ghost use Rattle.algebra.specs.WordLists.{Low};
 ghost use Rattle.residue.specs.Residues.{P};
 ghost use Rattle.clearance.specs.Clearances.{inRange, residueOf, clearanceOf};
 use crate::clearance;
+use residue::Field;
 use residue::Residue;
 
 // Whether each clearance is in the range, with no early exit.
@@ -42,7 +43,7 @@ pub fn to_clearances(s: &mut [u32], out: &mut [i32])
 {
     let mut i = 0;
     while i < s.len() {
-        out[i] = clearance::to_clearance(Residue::new(s[i]));
+        out[i] = clearance::to_clearance(Residue::new(s[i], Field::First));
         s[i] = 0;
         i += 1;
     }

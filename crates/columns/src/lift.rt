@@ -2,15 +2,16 @@
 ghost use mathlib.Core.Path.{_≡_};
 ghost use Prim.Native.Nat.{_^_, _<_, _≤_};
 ghost use lib.ListN.{length};
-ghost use Rattle.algebra.specs.Words.{𝔽₁};
 ghost use Rattle.algebra.specs.WordLists.{elements, toWords};
 ghost use Rattle.algebra.specs.Tests.{allSame};
 ghost use Rattle.foldable.specs.Every.{every};
 ghost use Rattle.foldable.specs.Lift.{lift as lifted};
 ghost use Rattle.job.specs.Limits.{maxDepth, maxRate, blockSize};
-ghost use Rattle.residue.specs.Residues.{F};
+ghost use Rattle.residue.specs.Elements.{F};
+ghost use Rattle.residue.specs.Chosen.{chosen};
 ghost use Rattle.columns.specs.Steps.{ColumnHalfIs, ColumnLent, lentColumn};
 use crate::places;
+use residue::Field;
 
 // Half a column of a level, and where column j of the level's diagonal begins.
 pub struct ColumnHalf {
@@ -32,9 +33,9 @@ fn column_half(depth: u32, j: usize, c: usize) -> ColumnHalf
     }
 }
 
-fn lift(depth: u32, j: usize, g: &[u32], t: &[u32], t2: &[u32], w: &mut [u32])
-    requires { ⌜ ColumnLent 𝔽₁ depth j (now g) (now t) (now t2) (now w) ⌝ }
-    ensures { λ _. ⌜ now (w .exit) ≡ toWords 𝔽₁ (lifted F (lentColumn 𝔽₁ j (now (g .entry)) (now (t .entry)) (now (t2 .entry))) depth (elements 𝔽₁ (now (w .entry)))) ⌝ }
+fn lift(depth: u32, j: usize, g: &[u32], t: &[u32], t2: &[u32], w: &mut [u32], field: Field)
+    requires { ⌜ ColumnLent (chosen field) depth j (now g) (now t) (now t2) (now w) ⌝ }
+    ensures { λ _. ⌜ now (w .exit) ≡ toWords (chosen field) (lifted (F (chosen field)) (lentColumn (chosen field) j (now (g .entry)) (now (t .entry)) (now (t2 .entry))) depth (elements (chosen field) (now (w .entry)))) ⌝ }
 {
     if depth == 0 {
         return;
@@ -42,9 +43,9 @@ fn lift(depth: u32, j: usize, g: &[u32], t: &[u32], t2: &[u32], w: &mut [u32])
     let p = column_half(depth, j, g.len());
     let half = p.half;
     let low = p.low;
-    lift(low, j, g, t, t2, &mut w[..half]);
-    lift(low, j, g, t, t2, &mut w[half..]);
-    places::cross(half, p.off, g.len(), t, t2, w);
+    lift(low, j, g, t, t2, &mut w[..half], field);
+    lift(low, j, g, t, t2, &mut w[half..], field);
+    places::cross(half, p.off, g.len(), t, t2, w, field);
 }
 
 // Whether w, with the levels over it, is column j of the block.
@@ -56,10 +57,11 @@ pub fn lifts_to(
     t2: &[u32],
     block: &[u32],
     w: &mut [u32],
+    field: Field,
 ) -> bool
-    requires { ⌜ (ColumnLent 𝔽₁ depth j (now g) (now t) (now t2) (now w)) × (length (now block) ≡ blockSize (length (now g)) depth) ⌝ }
-    ensures { λ r. ⌜ r ≡ allSame (toWords 𝔽₁ (lifted F (lentColumn 𝔽₁ j (now (g .entry)) (now (t .entry)) (now (t2 .entry))) depth (elements 𝔽₁ (now (w .entry))))) (every 0 (length (now (g .entry))) j (2 ^ depth) (now (block .entry))) ⌝ }
+    requires { ⌜ (ColumnLent (chosen field) depth j (now g) (now t) (now t2) (now w)) × (length (now block) ≡ blockSize (length (now g)) depth) ⌝ }
+    ensures { λ r. ⌜ r ≡ allSame (toWords (chosen field) (lifted (F (chosen field)) (lentColumn (chosen field) j (now (g .entry)) (now (t .entry)) (now (t2 .entry))) depth (elements (chosen field) (now (w .entry))))) (every 0 (length (now (g .entry))) j (2 ^ depth) (now (block .entry))) ⌝ }
 {
-    lift(depth, j, g, t, t2, w);
+    lift(depth, j, g, t, t2, w, field);
     places::same_places(j, g.len(), block, w)
 }

@@ -3,34 +3,35 @@ ghost use mathlib.Core.Path.{_≡_};
 ghost use Prim.Native.Nat.{_*_, _<_, _≤_};
 ghost use lib.ListN.{length, take};
 ghost use lib.Seq.{paste};
-ghost use Rattle.algebra.specs.Words.{𝔽₁};
 ghost use Rattle.algebra.specs.WordLists.{elements, toWords};
 ghost use Rattle.algebra.specs.Tests.{allSame};
 ghost use Rattle.code.specs.Steps.{times, crossed};
 ghost use Rattle.foldable.specs.Every.{every};
 ghost use Rattle.job.specs.Limits.{maxRate};
-ghost use Rattle.residue.specs.Residues.{elem};
+ghost use Rattle.residue.specs.Elements.{elem};
+ghost use Rattle.residue.specs.Chosen.{chosen};
 ghost use Rattle.columns.specs.Steps.{ScaleLent, CrossLent};
+use residue::Field;
 use residue::Residue;
 use words::entry;
 
 // a times the first n words, behind them.
-pub fn scale_front(n: usize, a: Residue, w: &mut [u32])
-    requires { ⌜ ScaleLent 𝔽₁ n a (now w) ⌝ }
-    ensures { λ _. ⌜ now (w .exit) ≡ paste (now (w .entry)) n (toWords 𝔽₁ (times 𝔽₁ (elem a) (elements 𝔽₁ (take n (now (w .entry)))))) n ⌝ }
+pub fn scale_front(n: usize, a: Residue, w: &mut [u32], field: Field)
+    requires { ⌜ ScaleLent (chosen field) n a (now w) ⌝ }
+    ensures { λ _. ⌜ now (w .exit) ≡ paste (now (w .entry)) n (toWords (chosen field) (times (chosen field) (elem (chosen field) a) (elements (chosen field) (take n (now (w .entry)))))) n ⌝ }
 {
     let mut i = 0;
     while i < n {
         let k = n + i;
-        w[k] = entry::scaled(a, w[i]);
+        w[k] = entry::scaled(a, w[i], field);
         i += 1;
     }
 }
 
 // The halves l and r of w become l + t r and l + t2 r, with the diagonals in every c-th place of t and t2 from a on.
-pub fn cross(n: usize, a: usize, c: usize, t: &[u32], t2: &[u32], w: &mut [u32])
-    requires { ⌜ CrossLent 𝔽₁ n a c (now t) (now t2) (now w) ⌝ }
-    ensures { λ _. ⌜ now (w .exit) ≡ crossed 𝔽₁ (every 0 c a n (now (t .entry))) (every 0 c a n (now (t2 .entry))) (now (w .entry)) ⌝ }
+pub fn cross(n: usize, a: usize, c: usize, t: &[u32], t2: &[u32], w: &mut [u32], field: Field)
+    requires { ⌜ CrossLent (chosen field) n a c (now t) (now t2) (now w) ⌝ }
+    ensures { λ _. ⌜ now (w .exit) ≡ crossed (chosen field) (every 0 c a n (now (t .entry))) (every 0 c a n (now (t2 .entry))) (now (w .entry)) ⌝ }
 {
     let mut i = 0;
     let mut p = a;
@@ -38,8 +39,8 @@ pub fn cross(n: usize, a: usize, c: usize, t: &[u32], t2: &[u32], w: &mut [u32])
         let k = n + i;
         let l = w[i];
         let r = w[k];
-        let u = entry::plus_product(l, t[p], r);
-        let v = entry::plus_product(l, t2[p], r);
+        let u = entry::plus_product(l, t[p], r, field);
+        let v = entry::plus_product(l, t2[p], r, field);
         w[i] = u;
         w[k] = v;
         p += c;

@@ -4,6 +4,7 @@ ghost use mathlib.Core.Bool.{_&&_};
 ghost use Prim.Native.Nat.{_^_, _≤_};
 ghost use lib.ListN.{length, take, replicate};
 ghost use Rattle.algebra.specs.Words.{𝔽₁};
+ghost use Rattle.residue.specs.Chosen.{chosen};
 ghost use Rattle.job.specs.Outcome.{outcome};
 ghost use Rattle.parameters.specs.Parameters.{inLimits};
 ghost use Rattle.undo.specs.Steps.{DecodeInput};
@@ -12,6 +13,7 @@ ghost use Rattle.decode.specs.Steps.{Found, Tried};
 use halves::same;
 use job::Answer;
 use job::Refusal;
+use residue::Field;
 use undo::message;
 
 // From this rate on the codeword of half a message, and half as much again, find room behind the message.
@@ -25,14 +27,15 @@ fn is_its_codeword(
     t2: &[u32],
     block: &[u32],
     work: &mut [u32],
+    field: Field,
 ) -> bool
-    requires { ⌜ Found 𝔽₁ depth (now g) (now t) (now t2) (now block) (now work) ⌝ }
-    ensures { λ r. ⌜ Tried 𝔽₁ depth (now (g .entry)) (now (t .entry)) (now (t2 .entry)) (now (block .entry)) r (now (work .exit)) ⌝ }
+    requires { ⌜ Found (chosen field) depth (now g) (now t) (now t2) (now block) (now work) ⌝ }
+    ensures { λ r. ⌜ Tried (chosen field) depth (now (g .entry)) (now (t .entry)) (now (t2 .entry)) (now (block .entry)) r (now (work .exit)) ⌝ }
 {
     if g.len() < BY_HALVES {
-        return columns::same_columns(depth, g, t, t2, block, work);
+        return columns::same_columns(depth, g, t, t2, block, work, field);
     }
-    same::same_codeword(depth, g, t, t2, block, work)
+    same::same_codeword(depth, g, t, t2, block, work, field)
 }
 
 // Whether the block is the codeword of the only message that it allows, which then stands in front of work.
@@ -43,12 +46,13 @@ fn is_codeword(
     t2: &[u32],
     block: &[u32],
     work: &mut [u32],
+    field: Field,
 ) -> bool
-    requires { ⌜ DecodeInput 𝔽₁ depth (now g) (now t) (now t2) (now block) (length (now work)) ⌝ }
-    ensures { λ r. ⌜ Tried 𝔽₁ depth (now (g .entry)) (now (t .entry)) (now (t2 .entry)) (now (block .entry)) r (now (work .exit)) ⌝ }
+    requires { ⌜ DecodeInput (chosen field) depth (now g) (now t) (now t2) (now block) (length (now work)) ⌝ }
+    ensures { λ r. ⌜ Tried (chosen field) depth (now (g .entry)) (now (t .entry)) (now (t2 .entry)) (now (block .entry)) r (now (work .exit)) ⌝ }
 {
-    message::message_of(depth, g, t, t2, block, work);
-    is_its_codeword(depth, g, t, t2, block, work)
+    message::message_of(depth, g, t, t2, block, work, field);
+    is_its_codeword(depth, g, t, t2, block, work, field)
 }
 
 // The message, from the front of work.
@@ -77,11 +81,12 @@ fn settle(
     block: &[u32],
     out: &mut [u32],
     work: &mut [u32],
+    field: Field,
 ) -> Answer
-    requires { ⌜ (DecodeInput 𝔽₁ depth (now g) (now t) (now t2) (now block) (length (now work))) × (length (now out) ≡ 2 ^ depth) ⌝ }
-    ensures { λ r. ⌜ (Settled 𝔽₁ depth (now (g .entry)) (now (t .entry)) (now (t2 .entry)) (now (block .entry)) (now (out .entry)) r (now (out .exit))) × (now (work .exit) ≡ replicate (length (now (work .entry))) 0) ⌝ }
+    requires { ⌜ (DecodeInput (chosen field) depth (now g) (now t) (now t2) (now block) (length (now work))) × (length (now out) ≡ 2 ^ depth) ⌝ }
+    ensures { λ r. ⌜ (Settled (chosen field) depth (now (g .entry)) (now (t .entry)) (now (t2 .entry)) (now (block .entry)) (now (out .entry)) r (now (out .exit))) × (now (work .exit) ≡ replicate (length (now (work .entry))) 0) ⌝ }
 {
-    if !is_codeword(depth, g, t, t2, block, work) {
+    if !is_codeword(depth, g, t, t2, block, work, field) {
         return cleared(Answer::Refused(Refusal::NoCodeword), work);
     }
     give(out, work);
@@ -122,8 +127,9 @@ fn judge(
     block: &[u32],
     out: usize,
     work: usize,
+    field: Field,
 ) -> Answer
-    ensures { λ r. ⌜ outcome r ≡ judgeDecoding 𝔽₁ depth rate (now (g .entry)) (now (t .entry)) (now (t2 .entry)) (now (block .entry)) out work ⌝ }
+    ensures { λ r. ⌜ outcome r ≡ judgeDecoding (chosen field) depth rate (now (g .entry)) (now (t .entry)) (now (t2 .entry)) (now (block .entry)) out work ⌝ }
 {
     let lengths = lengths_ok(
         depth,
@@ -135,8 +141,8 @@ fn judge(
         out,
         work,
     );
-    let row = parameters::scan_row(lengths, g, t, t2);
-    let words = parameters::all_words_ok(row.words, block);
+    let row = parameters::scan_row(lengths, g, t, t2, field);
+    let words = parameters::all_words_ok(row.words, block, field);
     parameters::judge(depth, rate, g, lengths, words, row.apart)
 }
 
@@ -152,9 +158,19 @@ pub fn decode(
 ) -> Answer
     ensures { λ r. ⌜ Decoded 𝔽₁ depth rate (now (g .entry)) (now (t .entry)) (now (t2 .entry)) (now (block .entry)) (now (out .entry)) (now (work .entry)) r (now (out .exit)) (now (work .exit)) ⌝ }
 {
-    let answer = judge(depth, rate, g, t, t2, block, out.len(), work.len());
+    let answer = judge(
+        depth,
+        rate,
+        g,
+        t,
+        t2,
+        block,
+        out.len(),
+        work.len(),
+        Field::First,
+    );
     if let Answer::Done = answer {
-        return settle(depth, g, t, t2, block, out, work);
+        return settle(depth, g, t, t2, block, out, work, Field::First);
     }
     answer
 }

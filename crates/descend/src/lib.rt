@@ -1,11 +1,12 @@
 // The block of a level as the fold of the block above it, in the opening that holds both, one behind the other.
 ghost use mathlib.Core.Path.{_≡_};
 ghost use lib.ListN.{length};
-ghost use Rattle.algebra.specs.Words.{𝔽₁};
+ghost use Rattle.residue.specs.Chosen.{chosen};
 ghost use Rattle.algebra.specs.Lists.{put};
 ghost use Rattle.basefold.specs.Layout.{blockAt};
 ghost use Rattle.descend.specs.Descending.{FoldBlockInput, foldedAbove};
 use fold::behind;
+use residue::Field;
 use residue::Residue;
 
 // The block of level i, by the challenge r_i, into its place.
@@ -17,18 +18,25 @@ pub fn fold_block(
     t2: &[u32],
     r: &[u32],
     opening: &mut [u32],
+    field: Field,
 )
-    requires { ⌜ FoldBlockInput 𝔽₁ depth i (now g) (now t) (now t2) (now r) (now opening) ⌝ }
-    ensures { λ _. ⌜ now (opening .exit) ≡ put (blockAt (length (now (g .entry))) 0 depth i) (foldedAbove 𝔽₁ depth i (length (now (g .entry))) (now (t .entry)) (now (t2 .entry)) (now (r .entry)) (now (opening .entry))) (now (opening .entry)) ⌝ }
+    requires { ⌜ FoldBlockInput (chosen field) depth i (now g) (now t) (now t2) (now r) (now opening) ⌝ }
+    ensures { λ _. ⌜ now (opening .exit) ≡ put (blockAt (length (now (g .entry))) 0 depth i) (foldedAbove (chosen field) depth i (length (now (g .entry))) (now (t .entry)) (now (t2 .entry)) (now (r .entry)) (now (opening .entry))) (now (opening .entry)) ⌝ }
 {
     let rate = g.len() as u32;
     let above = i + 1;
     let k = i as usize;
-    let a = Residue::new(r[k]);
+    let a = Residue::new(r[k], field);
     let n = job::block_len(i, rate);
     let off = job::diagonals_len(i, rate);
     let stop = off + n;
     let at = layout::block_at(depth, rate, above);
     let end = at + 3 * n;
-    behind::fold_behind(&t[off..stop], &t2[off..stop], a, &mut opening[at..end]);
+    behind::fold_behind(
+        &t[off..stop],
+        &t2[off..stop],
+        a,
+        &mut opening[at..end],
+        field,
+    );
 }

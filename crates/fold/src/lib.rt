@@ -7,12 +7,14 @@ ghost use lib.ListN.{length};
 ghost use Rattle.algebra.specs.Words.{𝔽₁};
 ghost use Rattle.algebra.specs.WordLists.{Low as LowWords};
 ghost use Rattle.job.specs.Outcome.{outcome};
-ghost use Rattle.residue.specs.Residues.{P, Low};
+ghost use Rattle.residue.specs.Elements.{P, Low};
+ghost use Rattle.residue.specs.Chosen.{chosen};
 ghost use Rattle.words.specs.Scans.{allBelow, allDiffer};
 ghost use Rattle.inversion.specs.Inversion.{Diagonals};
 ghost use Rattle.fold.specs.Job.{levelOk, foldLimits, lengthsOk, judgeFolding, foldWords, Folded};
 use job::Answer;
 use job::Refusal;
+use residue::Field;
 use residue::Residue;
 use words::scan;
 use words::scan::PairScan;
@@ -60,21 +62,21 @@ fn lengths_ok(level: u32, rate: u32, t: usize, t2: usize, block: usize, out: usi
 }
 
 // Whether all words are below the modulus, where those of the diagonals are.
-fn words_ok(diagonals: bool, block: &[u32], challenge: u32) -> bool
-    ensures { λ r. ⌜ r ≡ (diagonals && (allBelow 𝔽₁ (now (block .entry)) && ltb challenge P)) ⌝ }
+fn words_ok(diagonals: bool, block: &[u32], challenge: u32, field: Field) -> bool
+    ensures { λ r. ⌜ r ≡ (diagonals && (allBelow (chosen field) (now (block .entry)) && ltb challenge (P (chosen field)))) ⌝ }
 {
     if !diagonals {
         return false;
     }
-    if !scan::all_below(block) {
+    if !scan::all_below(block, field) {
         return false;
     }
-    challenge < Residue::MODULUS
+    challenge < Residue::modulus(field)
 }
 
 // Of the diagonals, where the lengths are right.
-fn scan_diagonals(lengths: bool, t: &[u32], t2: &[u32]) -> PairScan
-    ensures { λ r. ⌜ (r .below ≡ (lengths && (allBelow 𝔽₁ (now (t .entry)) && allBelow 𝔽₁ (now (t2 .entry))))) × (r .apart ≡ (lengths && allDiffer (now (t .entry)) (now (t2 .entry)))) ⌝ }
+fn scan_diagonals(lengths: bool, t: &[u32], t2: &[u32], field: Field) -> PairScan
+    ensures { λ r. ⌜ (r .below ≡ (lengths && (allBelow (chosen field) (now (t .entry)) && allBelow (chosen field) (now (t2 .entry))))) × (r .apart ≡ (lengths && allDiffer (now (t .entry)) (now (t2 .entry)))) ⌝ }
 {
     if !lengths {
         return PairScan {
@@ -82,7 +84,7 @@ fn scan_diagonals(lengths: bool, t: &[u32], t2: &[u32]) -> PairScan
             apart: false,
         };
     }
-    scan::scan_pair(t, t2)
+    scan::scan_pair(t, t2, field)
 }
 
 // The first refusal that is due. Nothing is read where the lengths are not right.
@@ -94,14 +96,15 @@ fn judge(
     block: &[u32],
     challenge: u32,
     out: usize,
+    field: Field,
 ) -> Answer
-    ensures { λ r. ⌜ outcome r ≡ judgeFolding 𝔽₁ level rate (now (t .entry)) (now (t2 .entry)) (now (block .entry)) challenge out ⌝ }
+    ensures { λ r. ⌜ outcome r ≡ judgeFolding (chosen field) level rate (now (t .entry)) (now (t2 .entry)) (now (block .entry)) challenge out ⌝ }
 {
     let upper = level_ok(level);
     let fair = job::rate_ok(rate);
     let lengths = lengths_ok(level, rate, t.len(), t2.len(), block.len(), out);
-    let diagonals = scan_diagonals(lengths, t, t2);
-    let words = words_ok(diagonals.below, block, challenge);
+    let diagonals = scan_diagonals(lengths, t, t2, field);
+    let words = words_ok(diagonals.below, block, challenge, field);
     let apart = diagonals.apart;
     let six = job::require(apart, Refusal::Diagonals, Answer::Done);
     let four = job::require(words, Refusal::Word, six);
@@ -111,12 +114,19 @@ fn judge(
 }
 
 // The fold, of what is judged already.
-fn fold_block(t: &[u32], t2: &[u32], block: &[u32], challenge: Residue, out: &mut [u32])
-    requires { ⌜ Diagonals 𝔽₁ 1 (length (now out)) (now t) (now t2) × (length (now block) ≡ length (now out) + length (now out)) × LowWords P (now block) × Low challenge ⌝ }
-    ensures { λ _. ⌜ now (out .exit) ≡ foldWords 𝔽₁ (length (now (out .entry))) (now (t .entry)) (now (t2 .entry)) (now (block .entry)) (challenge .0) ⌝ }
+fn fold_block(
+    t: &[u32],
+    t2: &[u32],
+    block: &[u32],
+    challenge: Residue,
+    out: &mut [u32],
+    field: Field,
+)
+    requires { ⌜ Diagonals (chosen field) 1 (length (now out)) (now t) (now t2) × (length (now block) ≡ length (now out) + length (now out)) × LowWords (P (chosen field)) (now block) × Low (chosen field) challenge ⌝ }
+    ensures { λ _. ⌜ now (out .exit) ≡ foldWords (chosen field) (length (now (out .entry))) (now (t .entry)) (now (t2 .entry)) (now (block .entry)) (challenge .0) ⌝ }
 {
-    inversion::invert_neighbours(t, t2, out);
-    lines::draw(t, block, challenge, out);
+    inversion::invert_neighbours(t, t2, out, field);
+    lines::draw(t, block, challenge, out, field);
 }
 
 // The level is the upper one: t and t2 are the diagonals of the level below it, block is a block of it, and out takes the block below.
@@ -131,9 +141,25 @@ pub fn fold(
 ) -> Answer
     ensures { λ r. ⌜ Folded 𝔽₁ level rate (now (t .entry)) (now (t2 .entry)) (now (block .entry)) challenge (now (out .entry)) r (now (out .exit)) ⌝ }
 {
-    let answer = judge(level, rate, t, t2, block, challenge, out.len());
+    let answer = judge(
+        level,
+        rate,
+        t,
+        t2,
+        block,
+        challenge,
+        out.len(),
+        Field::First,
+    );
     if let Answer::Done = answer {
-        fold_block(t, t2, block, Residue::new(challenge), out);
+        fold_block(
+            t,
+            t2,
+            block,
+            Residue::new(challenge, Field::First),
+            out,
+            Field::First,
+        );
     }
     answer
 }

@@ -2,14 +2,15 @@
 // left half, and then v is (u - t r) + t2 r.
 ghost use Prim.Native.Nat.{_+_};
 ghost use lib.ListN.{length, take, drop};
-ghost use Rattle.algebra.specs.Words.{𝔽₁};
+ghost use Rattle.residue.specs.Chosen.{chosen};
 ghost use Rattle.halves_step.specs.Steps.{LentPeel, FrontPeel, Peeled};
+use residue::Field;
 use words::entry;
 
 // Of a block that is lent, with r in out: out becomes u - t r. Whether that gives v.
-pub fn peel_lent(t: &[u32], t2: &[u32], block: &[u32], out: &mut [u32]) -> bool
-    requires { ⌜ LentPeel 𝔽₁ (now t) (now t2) (now block) (now out) ⌝ }
-    ensures { λ ok. ⌜ Peeled 𝔽₁ (now (t .entry)) (now (t2 .entry)) (take (length (now (t .entry))) (now (block .entry))) (drop (length (now (t .entry))) (now (block .entry))) (now (out .entry)) ok (now (out .exit)) ⌝ }
+pub fn peel_lent(t: &[u32], t2: &[u32], block: &[u32], out: &mut [u32], field: Field) -> bool
+    requires { ⌜ LentPeel (chosen field) (now t) (now t2) (now block) (now out) ⌝ }
+    ensures { λ ok. ⌜ Peeled (chosen field) (now (t .entry)) (now (t2 .entry)) (take (length (now (t .entry))) (now (block .entry))) (drop (length (now (t .entry))) (now (block .entry))) (now (out .entry)) ok (now (out .exit)) ⌝ }
 {
     let n = t.len();
     let mut ok = true;
@@ -17,8 +18,8 @@ pub fn peel_lent(t: &[u32], t2: &[u32], block: &[u32], out: &mut [u32]) -> bool
     while i < n {
         let k = n + i;
         let r = out[i];
-        let l = entry::minus_product(block[i], t[i], r);
-        ok = ok & (entry::plus_product(l, t2[i], r) == block[k]);
+        let l = entry::minus_product(block[i], t[i], r, field);
+        ok = ok & (entry::plus_product(l, t2[i], r, field) == block[k]);
         out[i] = l;
         i += 1;
     }
@@ -26,9 +27,9 @@ pub fn peel_lent(t: &[u32], t2: &[u32], block: &[u32], out: &mut [u32]) -> bool
 }
 
 // Of a block in front of w, with r behind it: u becomes u - t r. Whether that gives v.
-pub fn peel_front(t: &[u32], t2: &[u32], w: &mut [u32]) -> bool
-    requires { ⌜ FrontPeel 𝔽₁ (now t) (now t2) (now w) ⌝ }
-    ensures { λ ok. ⌜ Peeled 𝔽₁ (now (t .entry)) (now (t2 .entry)) (take (length (now (t .entry))) (now (w .entry))) (take (length (now (t .entry))) (drop (length (now (t .entry))) (now (w .entry)))) (drop (length (now (t .entry)) + length (now (t .entry))) (now (w .entry))) ok (take (length (now (t .entry))) (now (w .exit))) ⌝ }
+pub fn peel_front(t: &[u32], t2: &[u32], w: &mut [u32], field: Field) -> bool
+    requires { ⌜ FrontPeel (chosen field) (now t) (now t2) (now w) ⌝ }
+    ensures { λ ok. ⌜ Peeled (chosen field) (now (t .entry)) (now (t2 .entry)) (take (length (now (t .entry))) (now (w .entry))) (take (length (now (t .entry))) (drop (length (now (t .entry))) (now (w .entry)))) (drop (length (now (t .entry)) + length (now (t .entry))) (now (w .entry))) ok (take (length (now (t .entry))) (now (w .exit))) ⌝ }
 {
     let n = t.len();
     let mut ok = true;
@@ -37,8 +38,8 @@ pub fn peel_front(t: &[u32], t2: &[u32], w: &mut [u32]) -> bool
         let k = n + i;
         let q = k + n;
         let r = w[q];
-        let l = entry::minus_product(w[i], t[i], r);
-        ok = ok & (entry::plus_product(l, t2[i], r) == w[k]);
+        let l = entry::minus_product(w[i], t[i], r, field);
+        ok = ok & (entry::plus_product(l, t2[i], r, field) == w[k]);
         w[i] = l;
         i += 1;
     }

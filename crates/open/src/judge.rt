@@ -2,12 +2,13 @@
 ghost use mathlib.Core.Path.{_≡_};
 ghost use mathlib.Core.Bool.{_&&_};
 ghost use Prim.Native.Nat.{_≤_};
-ghost use Rattle.algebra.specs.Words.{𝔽₁};
+ghost use Rattle.residue.specs.Chosen.{chosen};
 ghost use Rattle.job.specs.Outcome.{outcome};
 ghost use Rattle.job.specs.Limits.{maxDepth, maxRate};
 ghost use Rattle.parameters.specs.Parameters.{inLimits};
 ghost use Rattle.open.specs.Writing.{inputLengths, bufferLengths, writeLengths, inputWords, judgeWriting};
 use job::Answer;
+use residue::Field;
 use words::scan;
 
 // Of the lengths of message, point and challenges.
@@ -60,13 +61,13 @@ fn lengths_ok(
 }
 
 // Whether all words are below the modulus, where those of row and diagonals are.
-fn words_ok(row: bool, m: &[u32], z: &[u32], r: &[u32]) -> bool
-    ensures { λ b. ⌜ b ≡ (row && inputWords 𝔽₁ (now (m .entry)) (now (z .entry)) (now (r .entry))) ⌝ }
+fn words_ok(row: bool, m: &[u32], z: &[u32], r: &[u32], field: Field) -> bool
+    ensures { λ b. ⌜ b ≡ (row && inputWords (chosen field) (now (m .entry)) (now (z .entry)) (now (r .entry))) ⌝ }
 {
     if !row {
         return false;
     }
-    scan::three_below(m, z, r)
+    scan::three_below(m, z, r, field)
 }
 
 pub fn judge(
@@ -80,8 +81,9 @@ pub fn judge(
     r: &[u32],
     o: usize,
     s: usize,
+    field: Field,
 ) -> Answer
-    ensures { λ a. ⌜ outcome a ≡ judgeWriting 𝔽₁ depth rate (now (g .entry)) (now (t .entry)) (now (t2 .entry)) (now (m .entry)) (now (z .entry)) (now (r .entry)) o s ⌝ }
+    ensures { λ a. ⌜ outcome a ≡ judgeWriting (chosen field) depth rate (now (g .entry)) (now (t .entry)) (now (t2 .entry)) (now (m .entry)) (now (z .entry)) (now (r .entry)) o s ⌝ }
 {
     let lengths = lengths_ok(
         depth,
@@ -95,7 +97,7 @@ pub fn judge(
         o,
         s,
     );
-    let row = parameters::scan_row(lengths, g, t, t2);
-    let words = words_ok(row.words, m, z, r);
+    let row = parameters::scan_row(lengths, g, t, t2, field);
+    let words = words_ok(row.words, m, z, r, field);
     parameters::judge(depth, rate, g, lengths, words, row.apart)
 }

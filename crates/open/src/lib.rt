@@ -1,10 +1,12 @@
 // Writing an opening.
 ghost use lib.ListN.{length};
 ghost use Rattle.algebra.specs.Words.{𝔽₁};
+ghost use Rattle.residue.specs.Chosen.{chosen};
 ghost use Rattle.rounds.specs.Opening.{WriteInput};
 ghost use Rattle.open.specs.Writing.{WriteResult, Wrote};
 use job::Answer;
 use job::Refusal;
+use residue::Field;
 use residue::Residue;
 
 mod judge;
@@ -26,13 +28,14 @@ fn write_words(
     r: &[u32],
     opening: &mut [u32],
     work: &mut [u32],
+    field: Field,
 ) -> Residue
-    requires { ⌜ WriteInput 𝔽₁ depth (now g) (now t) (now t2) (now message) (now z) (now r) (length (now opening)) (length (now work)) ⌝ }
-    ensures { λ v. ⌜ WriteResult 𝔽₁ (now (g .entry)) (now (t .entry)) (now (t2 .entry)) (now (message .entry)) (now (z .entry)) (now (r .entry)) (length (now (work .entry))) v (now (opening .exit)) (now (work .exit)) ⌝ }
+    requires { ⌜ WriteInput (chosen field) depth (now g) (now t) (now t2) (now message) (now z) (now r) (length (now opening)) (length (now work)) ⌝ }
+    ensures { λ v. ⌜ WriteResult (chosen field) (now (g .entry)) (now (t .entry)) (now (t2 .entry)) (now (message .entry)) (now (z .entry)) (now (r .entry)) (length (now (work .entry))) v (now (opening .exit)) (now (work .exit)) ⌝ }
 {
-    let v = polynomial::value(message, z);
+    let v = polynomial::value(message, z, field);
     steps::begin(message, work);
-    rounds::rounds(depth, g, t, t2, z, r, opening, work);
+    rounds::rounds(depth, g, t, t2, z, r, opening, work, field);
     steps::give_final(depth, opening, work);
     words::clear(work);
     v
@@ -63,10 +66,11 @@ pub fn write_opening(
         r,
         opening.len(),
         work.len(),
+        Field::First,
     );
     match answer {
         Answer::Done => {
-            let v = write_words(depth, g, t, t2, message, z, r, opening, work);
+            let v = write_words(depth, g, t, t2, message, z, r, opening, work, Field::First);
             Written::Value(v.word())
         }
         Answer::Refused(n) => Written::Refused(n),

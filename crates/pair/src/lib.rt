@@ -6,6 +6,7 @@ ghost use Rattle.algebra.specs.Words.{𝔽₁};
 ghost use Rattle.pairs.specs.Pair.{addP, subP, mulP, real};
 ghost use Rattle.residue.specs.Residues.{K, elem, Low};
 ghost use Rattle.pair.specs.PairWords.{pairOf, pairAt, LowPair, Stands, PairLent};
+use residue::Field;
 use residue::Residue;
 
 pub struct Pair {
@@ -30,8 +31,8 @@ impl Pair {
         ensures { λ r. ⌜ Stands 𝔽₁ (addP K (pairOf 𝔽₁ self) (pairOf 𝔽₁ b)) r ⌝ }
     {
         Pair {
-            re: self.re.plus(b.re),
-            im: self.im.plus(b.im),
+            re: self.re.plus(b.re, Field::First),
+            im: self.im.plus(b.im, Field::First),
         }
     }
 
@@ -40,8 +41,8 @@ impl Pair {
         ensures { λ r. ⌜ Stands 𝔽₁ (subP K (pairOf 𝔽₁ self) (pairOf 𝔽₁ b)) r ⌝ }
     {
         Pair {
-            re: self.re.minus(b.re),
-            im: self.im.minus(b.im),
+            re: self.re.minus(b.re, Field::First),
+            im: self.im.minus(b.im, Field::First),
         }
     }
 
@@ -49,10 +50,14 @@ impl Pair {
         requires { ⌜ LowPair 𝔽₁ self × LowPair 𝔽₁ b ⌝ }
         ensures { λ r. ⌜ Stands 𝔽₁ (mulP K (pairOf 𝔽₁ self) (pairOf 𝔽₁ b)) r ⌝ }
     {
-        let imaginary = self.im.times(b.im);
+        let imaginary = self.im.times(b.im, Field::First);
         Pair {
-            re: self.re.times(b.re).minus(imaginary),
-            im: self.re.times(b.im).plus_product(self.im, b.re),
+            re: self.re
+                .times(b.re, Field::First)
+                .minus(imaginary, Field::First),
+            im: self.re
+                .times(b.im, Field::First)
+                .plus_product(self.im, b.re, Field::First),
         }
     }
 
@@ -62,8 +67,8 @@ impl Pair {
         ensures { λ r. ⌜ Stands 𝔽₁ (mulP K (real K (elem a)) (pairOf 𝔽₁ self)) r ⌝ }
     {
         Pair {
-            re: a.times(self.re),
-            im: a.times(self.im),
+            re: a.times(self.re, Field::First),
+            im: a.times(self.im, Field::First),
         }
     }
 
@@ -72,11 +77,13 @@ impl Pair {
         requires { ⌜ LowPair 𝔽₁ self × LowPair 𝔽₁ a × LowPair 𝔽₁ b ⌝ }
         ensures { λ r. ⌜ Stands 𝔽₁ (addP K (pairOf 𝔽₁ self) (mulP K (pairOf 𝔽₁ a) (pairOf 𝔽₁ b))) r ⌝ }
     {
-        let imaginary = a.im.times(b.im);
-        let cross = self.im.plus_product(a.re, b.im);
+        let im_im = a.im.times(b.im, Field::First);
+        let cross = self.im.plus_product(a.re, b.im, Field::First);
         Pair {
-            re: self.re.plus_product(a.re, b.re).minus(imaginary),
-            im: cross.plus_product(a.im, b.re),
+            re: self.re
+                .plus_product(a.re, b.re, Field::First)
+                .minus(im_im, Field::First),
+            im: cross.plus_product(a.im, b.re, Field::First),
         }
     }
 }
@@ -88,8 +95,8 @@ pub fn load(s: &[u32], j: usize) -> Pair
 {
     let at = 2 * j;
     Pair {
-        re: Residue::new(s[at]),
-        im: Residue::new(s[at + 1]),
+        re: Residue::new(s[at], Field::First),
+        im: Residue::new(s[at + 1], Field::First),
     }
 }
 

@@ -5,6 +5,7 @@ ghost use Rattle.pairs.specs.Root.{no-root₁};
 ghost use Rattle.pair.specs.PairWords.{pairOf, LowPair};
 ghost use Rattle.pair_fold.specs.Folding.{PairFoldLent, foldPairWords};
 use pair::Pair;
+use residue::Field;
 
 pub mod lines;
 
@@ -14,6 +15,6 @@ pub fn fold_pairs_lent(t: &[u32], t2: &[u32], block: &[u32], challenge: Pair, ou
     ensures { λ _. ⌜ now (out .exit) ≡ foldPairWords 𝔽₁ no-root₁ (now (t .entry)) (now (t2 .entry)) (now (block .entry)) (pairOf 𝔽₁ challenge) ⌝ }
 {
     let n = t.len();
-    inversion::invert_neighbours(t, t2, &mut out[..n]);
+    inversion::invert_neighbours(t, t2, &mut out[..n], Field::First);
     lines::draw(t, block, challenge, out);
 }

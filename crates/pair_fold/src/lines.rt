@@ -7,6 +7,7 @@ ghost use Rattle.residue.specs.Residues.{elem, Low};
 ghost use Rattle.pair.specs.PairWords.{pairOf, LowPair, Stands, pairWords};
 ghost use Rattle.pair_fold.specs.Steps.{pairLine, pairLines, PairLinesLent, PairPlaceLent};
 use pair::Pair;
+use residue::Field;
 use residue::Residue;
 
 // The value at a of the line through (t, u) and (t', v), where s is the inverse of t' - t.
@@ -25,7 +26,13 @@ fn line_at(a: Pair, t: &[u32], block: &[u32], out: &[u32], j: usize) -> Pair
 {
     let u = pair::load(block, j);
     let v = pair::load(block, t.len() + j);
-    line(a, Residue::new(t[j]), Residue::new(out[j]), u, v)
+    line(
+        a,
+        Residue::new(t[j], Field::First),
+        Residue::new(out[j], Field::First),
+        u,
+        v,
+    )
 }
 
 // The first half of out holds the inverses. Place j is written at words 2j and 2j + 1, so from the last place down no inverse is lost before its use.

@@ -1,12 +1,13 @@
 // What jobs that are lent a base row and the diagonals of all levels judge of them.
 ghost use mathlib.Core.Path.{_≡_};
 ghost use mathlib.Core.Bool.{_&&_};
-ghost use Rattle.algebra.specs.Words.{𝔽₁};
+ghost use Rattle.residue.specs.Chosen.{chosen};
 ghost use Rattle.job.specs.Outcome.{outcome};
 ghost use Rattle.words.specs.Scans.{allBelow, noneZero};
 ghost use Rattle.parameters.specs.Parameters.{inLimits, rowLengths, RowScanned, judgeFlags};
 use job::Answer;
 use job::Refusal;
+use residue::Field;
 use words::scan;
 
 pub fn in_limits(depth: u32, rate: u32) -> bool
@@ -43,8 +44,8 @@ pub struct RowScan {
     pub apart: bool,
 }
 
-pub fn scan_row(lengths: bool, g: &[u32], t: &[u32], t2: &[u32]) -> RowScan
-    ensures { λ r. ⌜ RowScanned 𝔽₁ lengths (now (g .entry)) (now (t .entry)) (now (t2 .entry)) (r .words) (r .apart) ⌝ }
+pub fn scan_row(lengths: bool, g: &[u32], t: &[u32], t2: &[u32], field: Field) -> RowScan
+    ensures { λ r. ⌜ RowScanned (chosen field) lengths (now (g .entry)) (now (t .entry)) (now (t2 .entry)) (r .words) (r .apart) ⌝ }
 {
     if !lengths {
         return RowScan {
@@ -52,8 +53,8 @@ pub fn scan_row(lengths: bool, g: &[u32], t: &[u32], t2: &[u32]) -> RowScan
             apart: false,
         };
     }
-    let row = scan::all_below(g);
-    let diagonals = scan::scan_pair(t, t2);
+    let row = scan::all_below(g, field);
+    let diagonals = scan::scan_pair(t, t2, field);
     RowScan {
         words: row & diagonals.below,
         apart: diagonals.apart,
@@ -61,13 +62,13 @@ pub fn scan_row(lengths: bool, g: &[u32], t: &[u32], t2: &[u32]) -> RowScan
 }
 
 // Whether all words of a message or block are below the modulus too.
-pub fn all_words_ok(row: bool, m: &[u32]) -> bool
-    ensures { λ r. ⌜ r ≡ (row && allBelow 𝔽₁ (now (m .entry))) ⌝ }
+pub fn all_words_ok(row: bool, m: &[u32], field: Field) -> bool
+    ensures { λ r. ⌜ r ≡ (row && allBelow (chosen field) (now (m .entry))) ⌝ }
 {
     if !row {
         return false;
     }
-    scan::all_below(m)
+    scan::all_below(m, field)
 }
 
 fn row_ok(words: bool, g: &[u32]) -> bool

@@ -6,12 +6,14 @@ ghost use Rattle.algebra.specs.WordLists.{elements};
 ghost use Rattle.job.specs.Outcome.{outcome};
 ghost use Rattle.job.specs.Limits.{depthOk};
 ghost use Rattle.multilinear.specs.Polynomial.{poly};
-ghost use Rattle.residue.specs.Residues.{K, word};
+ghost use Rattle.residue.specs.Elements.{K, word};
+ghost use Rattle.residue.specs.Chosen.{chosen};
 ghost use Rattle.words.specs.Scans.{allBelow};
 ghost use Rattle.polynomial.specs.Evaluation.{EvaluateInput, evaluateLengths, judgeEvaluating, evaluation, evaluationOutcome};
 ghost use Rattle.polynomial.specs.Monomials.{Monomials};
 use job::Answer;
 use job::Refusal;
+use residue::Field;
 use residue::Residue;
 use residue::sums;
 use words::scan;
@@ -26,29 +28,29 @@ pub enum Evaluation {
 
 // By the top variable: the value of the left half plus that variable times the value of the right half. When only low variables are left, it is
 // the sum of coefficients times monomials, which w has.
-fn by_top(w: &[u32; 64], m: &[u32], z: &[u32]) -> Residue
-    requires { ⌜ EvaluateInput 𝔽₁ (now m) (now z) × Monomials 𝔽₁ (now w) (now z) ⌝ }
-    ensures { λ v. ⌜ v .0 ≡ word (poly K (elements 𝔽₁ (now (m .entry))) (elements 𝔽₁ (now (z .entry)))) ⌝ }
+fn by_top(w: &[u32; 64], m: &[u32], z: &[u32], field: Field) -> Residue
+    requires { ⌜ EvaluateInput (chosen field) (now m) (now z) × Monomials (chosen field) (now w) (now z) ⌝ }
+    ensures { λ v. ⌜ v .0 ≡ word (chosen field) (poly (K (chosen field)) (elements (chosen field) (now (m .entry))) (elements (chosen field) (now (z .entry)))) ⌝ }
 {
     let d = z.len();
     if d <= monomials::LOW {
-        return sums::of_products(m, w);
+        return sums::of_products(m, w, field);
     }
     let top = d - 1;
     let half = m.len() / 2;
-    let l = by_top(w, &m[..half], &z[..top]);
-    let r = by_top(w, &m[half..], &z[..top]);
-    l.plus_product(Residue::new(z[top]), r)
+    let l = by_top(w, &m[..half], &z[..top], field);
+    let r = by_top(w, &m[half..], &z[..top], field);
+    l.plus_product(Residue::new(z[top], field), r, field)
 }
 
 // The monomials of the low variables are made once, for all parts of the message.
-pub fn value(m: &[u32], z: &[u32]) -> Residue
-    requires { ⌜ EvaluateInput 𝔽₁ (now m) (now z) ⌝ }
-    ensures { λ v. ⌜ v .0 ≡ word (poly K (elements 𝔽₁ (now (m .entry))) (elements 𝔽₁ (now (z .entry)))) ⌝ }
+pub fn value(m: &[u32], z: &[u32], field: Field) -> Residue
+    requires { ⌜ EvaluateInput (chosen field) (now m) (now z) ⌝ }
+    ensures { λ v. ⌜ v .0 ≡ word (chosen field) (poly (K (chosen field)) (elements (chosen field) (now (m .entry))) (elements (chosen field) (now (z .entry)))) ⌝ }
 {
     let mut w = [0u32; 64];
-    monomials::fill(&mut w, z);
-    by_top(&w, m, z)
+    monomials::fill(&mut w, z, field);
+    by_top(&w, m, z, field)
 }
 
 // A depth that is not legal has no lengths.
@@ -64,22 +66,22 @@ fn lengths_ok(depth: u32, m: usize, z: usize) -> bool
     z == depth as usize
 }
 
-fn words_ok(m: &[u32], z: &[u32]) -> bool
-    ensures { λ r. ⌜ r ≡ (allBelow 𝔽₁ (now (m .entry)) && allBelow 𝔽₁ (now (z .entry))) ⌝ }
+fn words_ok(m: &[u32], z: &[u32], field: Field) -> bool
+    ensures { λ r. ⌜ r ≡ (allBelow (chosen field) (now (m .entry)) && allBelow (chosen field) (now (z .entry))) ⌝ }
 {
-    if !scan::all_below(m) {
+    if !scan::all_below(m, field) {
         return false;
     }
-    scan::all_below(z)
+    scan::all_below(z, field)
 }
 
 // The tests are made before any refusal, which costs a refused call one scan.
-fn judge(depth: u32, m: &[u32], z: &[u32]) -> Answer
-    ensures { λ r. ⌜ outcome r ≡ judgeEvaluating 𝔽₁ depth (now (m .entry)) (now (z .entry)) ⌝ }
+fn judge(depth: u32, m: &[u32], z: &[u32], field: Field) -> Answer
+    ensures { λ r. ⌜ outcome r ≡ judgeEvaluating (chosen field) depth (now (m .entry)) (now (z .entry)) ⌝ }
 {
     let shallow = job::depth_ok(depth);
     let sized = lengths_ok(depth, m.len(), z.len());
-    let below = words_ok(m, z);
+    let below = words_ok(m, z, field);
     let words = job::require(below, Refusal::Word, Answer::Done);
     let lengths = job::require(sized, Refusal::Length, words);
     job::require(shallow, Refusal::Depth, lengths)
@@ -88,9 +90,9 @@ fn judge(depth: u32, m: &[u32], z: &[u32]) -> Answer
 pub fn evaluate(depth: u32, message: &[u32], point: &[u32]) -> Evaluation
     ensures { λ r. ⌜ evaluationOutcome r ≡ evaluation 𝔽₁ depth (now (message .entry)) (now (point .entry)) ⌝ }
 {
-    let answer = judge(depth, message, point);
+    let answer = judge(depth, message, point, Field::First);
     match answer {
-        Answer::Done => Evaluation::Value(value(message, point).word()),
+        Answer::Done => Evaluation::Value(value(message, point, Field::First).word()),
         Answer::Refused(r) => Evaluation::Refused(r),
     }
 }

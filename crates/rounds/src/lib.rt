@@ -3,12 +3,13 @@ ghost use mathlib.Core.Path.{_≡_};
 ghost use mathlib.Core.Bool.{true};
 ghost use Prim.Native.Nat.{_+_, _^_, _<_};
 ghost use lib.ListN.{length, take, getD, set};
-ghost use Rattle.algebra.specs.Words.{𝔽₁};
+ghost use Rattle.residue.specs.Chosen.{chosen};
 ghost use Rattle.algebra.specs.Lists.{put};
 ghost use Rattle.basefold.specs.Layout.{finalAt, blockAt};
 ghost use Rattle.parameters.specs.Lent.{codeword};
 ghost use Rattle.rounds.specs.Rounds.{BlockInput, RoundInput, RoundResult};
 ghost use Rattle.rounds.specs.Opening.{openingWords, WriteInput};
+use residue::Field;
 use residue::Residue;
 
 // The blocks below this level are so short that encoding takes less time than a fold with its one inversion.
@@ -35,15 +36,16 @@ fn block(
     r: &[u32],
     opening: &mut [u32],
     work: &[u32],
+    field: Field,
 )
-    requires { ⌜ BlockInput 𝔽₁ depth i (now g) (now t) (now t2) (now r) (now opening) (now work) ⌝ }
-    ensures { λ _. ⌜ now (opening .exit) ≡ put (blockAt (length (now (g .entry))) 0 depth i) (codeword 𝔽₁ i (now (g .entry)) (now (t .entry)) (now (t2 .entry)) (take (2 ^ i) (now (work .entry)))) (now (opening .entry)) ⌝ }
+    requires { ⌜ BlockInput (chosen field) depth i (now g) (now t) (now t2) (now r) (now opening) (now work) ⌝ }
+    ensures { λ _. ⌜ now (opening .exit) ≡ put (blockAt (length (now (g .entry))) 0 depth i) (codeword (chosen field) i (now (g .entry)) (now (t .entry)) (now (t2 .entry)) (take (2 ^ i) (now (work .entry)))) (now (opening .entry)) ⌝ }
 {
     if folds(depth, i) {
-        descend::fold_block(depth, i, g, t, t2, r, opening);
+        descend::fold_block(depth, i, g, t, t2, r, opening, field);
         return;
     }
-    steps::give_block(depth, i, g, t, t2, opening, work);
+    steps::give_block(depth, i, g, t, t2, opening, work, field);
 }
 
 // From level i + 1 to level i; the new weight.
@@ -58,13 +60,14 @@ fn round(
     r: &[u32],
     opening: &mut [u32],
     work: &mut [u32],
+    field: Field,
 ) -> Residue
-    requires { ⌜ RoundInput 𝔽₁ depth i w (now g) (now t) (now t2) (now z) (now r) (now opening) (now work) ⌝ }
-    ensures { λ v. ⌜ RoundResult 𝔽₁ depth i w (now (g .entry)) (now (t .entry)) (now (t2 .entry)) (now (z .entry)) (now (r .entry)) (now (opening .entry)) (now (work .entry)) v (now (opening .exit)) (now (work .exit)) ⌝ }
+    requires { ⌜ RoundInput (chosen field) depth i w (now g) (now t) (now t2) (now z) (now r) (now opening) (now work) ⌝ }
+    ensures { λ v. ⌜ RoundResult (chosen field) depth i w (now (g .entry)) (now (t .entry)) (now (t2 .entry)) (now (z .entry)) (now (r .entry)) (now (opening .entry)) (now (work .entry)) v (now (opening .exit)) (now (work .exit)) ⌝ }
 {
-    steps::give_round(depth, i, w, z, opening, work);
-    let v = steps::take_challenge(i, w, z, r, work);
-    block(depth, i, g, t, t2, r, opening, work);
+    steps::give_round(depth, i, w, z, opening, work, field);
+    let v = steps::take_challenge(i, w, z, r, work, field);
+    block(depth, i, g, t, t2, r, opening, work, field);
     v
 }
 
@@ -78,14 +81,15 @@ pub fn rounds(
     r: &[u32],
     opening: &mut [u32],
     work: &mut [u32],
+    field: Field,
 )
-    requires { ⌜ WriteInput 𝔽₁ depth (now g) (now t) (now t2) (take (2 ^ depth) (now work)) (now z) (now r) (length (now opening)) (length (now work)) ⌝ }
-    ensures { λ _. ⌜ set (now (opening .exit)) (finalAt depth) (getD (now (work .exit)) 0 0) ≡ openingWords 𝔽₁ (now (g .entry)) (now (t .entry)) (now (t2 .entry)) (take (2 ^ depth) (now (work .entry))) (now (z .entry)) (now (r .entry)) ⌝ }
+    requires { ⌜ WriteInput (chosen field) depth (now g) (now t) (now t2) (take (2 ^ depth) (now work)) (now z) (now r) (length (now opening)) (length (now work)) ⌝ }
+    ensures { λ _. ⌜ set (now (opening .exit)) (finalAt depth) (getD (now (work .exit)) 0 0) ≡ openingWords (chosen field) (now (g .entry)) (now (t .entry)) (now (t2 .entry)) (take (2 ^ depth) (now (work .entry))) (now (z .entry)) (now (r .entry)) ⌝ }
 {
     let mut w = Residue::ONE;
     let mut i = depth;
     while i > 0 {
         i -= 1;
-        w = round(depth, i, w, g, t, t2, z, r, opening, work);
+        w = round(depth, i, w, g, t, t2, z, r, opening, work, field);
     }
 }

@@ -20,10 +20,11 @@ use Rattle.residue.specs.declared.Residue.{Residue}
 use Rattle.residue.specs.Elements.{Low, elem}
 
 module _ (𝓕 : PrimeField) where
+  infixl 65 _⊞_
   infixl 70 _⊠_
   open PrimeField 𝓕 using (modulus as P, field as F, words as W)
   open Field F using (ring as K)
-  open Ring K using (R as Element, _*_ as _⊠_)
+  open Ring K using (R as Element, _+_ as _⊞_, _*_ as _⊠_)
   open Words W using (el, val as word)
 
   -- a polynomial as it is sent: its values at 0, 1, 2
@@ -33,6 +34,14 @@ module _ (𝓕 : PrimeField) where
   -- the weight w times h of what is left, M, in the variables of y: no challenge is put into M's own variables yet
   abbrev pub roundOf : Element → List Element → List Element → Element → Element
   roundOf w M y X = w ⊠ h K 0 M y [] (length y) X
+
+  -- the weight w times eq of z and x
+  abbrev pub weighed : Element → Element → Element → Element
+  weighed w z x = w ⊠ factor 𝓕 z x
+
+  -- that, times the value at x of the line through l at 0 and l + r at 1
+  abbrev pub weighedLine : Element → Element → Element → Element → Element → Element
+  weighedLine w z l r x = weighed w z x ⊠ (l ⊞ x ⊠ r)
 
   -- a message that has a top variable
   pub record HalvesInput (z m : List ℕ) : Type 0 where
@@ -91,7 +100,7 @@ module _ (𝓕 : PrimeField) where
 
   -- the weight v at level i, and the work buffer s'
   pub record TakeChallengeResult (i : ℕ) (w : Residue) (z r s : List ℕ) (v : Residue) (s' : List ℕ) : Type 0 where
-    pub weight : v .0 ≡ word (elem 𝓕 w ⊠ factor 𝓕 (el (getD z i 0)) (el (getD r i 0)))
+    pub weight : v .0 ≡ word (weighed (elem 𝓕 w) (el (getD z i 0)) (el (getD r i 0)))
     pub left : s' ≡ toWords 𝓕 (leftOf i (getD r i 0) s) ++ drop (2 ^ i) s
 
   pub record GiveBlockInput (d i : ℕ) (g t t' : List ℕ) (n : ℕ) (s : List ℕ) : Type 0 where

@@ -4,12 +4,13 @@ ghost use mathlib.Core.Path.{_≡_};
 ghost use mathlib.Core.List.{_++_};
 ghost use Prim.Native.Nat.{suc, _^_, _<_, _≤_};
 ghost use lib.ListN.{length, take, drop, getD, set};
-ghost use Rattle.algebra.specs.Words.{𝔽₁};
+ghost use Rattle.residue.specs.Chosen.{chosen};
 ghost use Rattle.algebra.specs.Lists.{put};
 ghost use Rattle.basefold.specs.Layout.{roundAt, finalAt, blockAt};
 ghost use Rattle.parameters.specs.Lent.{codeword};
 ghost use Rattle.steps.specs.Steps.{sentWords, GiveRoundInput, TakeChallengeInput, TakeChallengeResult, GiveBlockInput};
 use code::encode;
+use residue::Field;
 use residue::Residue;
 
 mod fold;
@@ -26,28 +27,43 @@ pub fn begin(message: &[u32], work: &mut [u32])
 }
 
 // h_(i+1) into its place.
-pub fn give_round(depth: u32, i: u32, w: Residue, z: &[u32], opening: &mut [u32], work: &[u32])
-    requires { ⌜ GiveRoundInput 𝔽₁ depth i w (now z) (length (now opening)) (now work) ⌝ }
-    ensures { λ _. ⌜ now (opening .exit) ≡ put (roundAt depth (suc i)) (sentWords 𝔽₁ i w (now (z .entry)) (now (work .entry))) (now (opening .entry)) ⌝ }
+pub fn give_round(
+    depth: u32,
+    i: u32,
+    w: Residue,
+    z: &[u32],
+    opening: &mut [u32],
+    work: &[u32],
+    field: Field,
+)
+    requires { ⌜ GiveRoundInput (chosen field) depth i w (now z) (length (now opening)) (now work) ⌝ }
+    ensures { λ _. ⌜ now (opening .exit) ≡ put (roundAt depth (suc i)) (sentWords (chosen field) i w (now (z .entry)) (now (work .entry))) (now (opening .entry)) ⌝ }
 {
     let next = i + 1;
     let k = next as usize;
     let n = job::message_len(next);
     let at = layout::round_at(depth, next);
     let end = at + 3;
-    send::send(w, &z[..k], &work[..n], &mut opening[at..end]);
+    send::send(w, &z[..k], &work[..n], &mut opening[at..end], field);
 }
 
 // The challenge r_i: what is left is folded by it, and eq of it and z_i comes to the weight.
-pub fn take_challenge(i: u32, w: Residue, z: &[u32], r: &[u32], work: &mut [u32]) -> Residue
-    requires { ⌜ TakeChallengeInput 𝔽₁ i w (now z) (now r) (now work) ⌝ }
-    ensures { λ v. ⌜ TakeChallengeResult 𝔽₁ i w (now (z .entry)) (now (r .entry)) (now (work .entry)) v (now (work .exit)) ⌝ }
+pub fn take_challenge(
+    i: u32,
+    w: Residue,
+    z: &[u32],
+    r: &[u32],
+    work: &mut [u32],
+    field: Field,
+) -> Residue
+    requires { ⌜ TakeChallengeInput (chosen field) i w (now z) (now r) (now work) ⌝ }
+    ensures { λ v. ⌜ TakeChallengeResult (chosen field) i w (now (z .entry)) (now (r .entry)) (now (work .entry)) v (now (work .exit)) ⌝ }
 {
     let k = i as usize;
     let n = job::message_len(i + 1);
-    let a = Residue::new(r[k]);
-    fold::fold(a, &mut work[..n]);
-    weigh::weigh(w, Residue::new(z[k]), a)
+    let a = Residue::new(r[k], field);
+    fold::fold(a, &mut work[..n], field);
+    weigh::weigh(w, Residue::new(z[k], field), a, field)
 }
 
 // The block of level i, the codeword of what is left, into its place.
@@ -59,15 +75,16 @@ pub fn give_block(
     t2: &[u32],
     opening: &mut [u32],
     work: &[u32],
+    field: Field,
 )
-    requires { ⌜ GiveBlockInput 𝔽₁ depth i (now g) (now t) (now t2) (length (now opening)) (now work) ⌝ }
-    ensures { λ _. ⌜ now (opening .exit) ≡ put (blockAt (length (now (g .entry))) 0 depth i) (codeword 𝔽₁ i (now (g .entry)) (now (t .entry)) (now (t2 .entry)) (take (2 ^ i) (now (work .entry)))) (now (opening .entry)) ⌝ }
+    requires { ⌜ GiveBlockInput (chosen field) depth i (now g) (now t) (now t2) (length (now opening)) (now work) ⌝ }
+    ensures { λ _. ⌜ now (opening .exit) ≡ put (blockAt (length (now (g .entry))) 0 depth i) (codeword (chosen field) i (now (g .entry)) (now (t .entry)) (now (t2 .entry)) (take (2 ^ i) (now (work .entry)))) (now (opening .entry)) ⌝ }
 {
     let rate = g.len() as u32;
     let n = job::message_len(i);
     let at = layout::block_at(depth, rate, i);
     let end = at + job::block_len(i, rate);
-    encode::encode_words(i, g, t, t2, &work[..n], &mut opening[at..end]);
+    encode::encode_words(i, g, t, t2, &work[..n], &mut opening[at..end], field);
 }
 
 // v, the one word that is left at last.

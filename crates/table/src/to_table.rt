@@ -13,6 +13,7 @@ use crate::transform::Way;
 use clearance::slices;
 use job::Answer;
 use job::Refusal;
+use residue::Field;
 use words::scan;
 
 // The tests are made before any refusal, which costs a refused call one scan.
@@ -21,7 +22,7 @@ fn judge(message: &[u32], table: usize, work: usize) -> Answer
 {
     let power = length::is_power(message.len());
     let same = (table == message.len()) & (work == message.len());
-    let below = scan::all_below(message);
+    let below = scan::all_below(message, Field::First);
     let words = job::require(below, Refusal::Word, Answer::Done);
     let lengths = job::require(same, Refusal::Length, words);
     job::require(power, Refusal::Depth, lengths)

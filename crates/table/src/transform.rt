@@ -6,6 +6,7 @@ ghost use Rattle.algebra.specs.Words.{𝔽₁};
 ghost use Rattle.algebra.specs.WordLists.{Low, elements, toWords};
 ghost use Rattle.residue.specs.Residues.{P, word, el};
 ghost use Rattle.table.specs.Passes.{across, crossed, blocks, passes};
+use residue::Field;
 use words::entry;
 
 pub enum Way {
@@ -19,8 +20,8 @@ fn step(way: Way, x: u32, y: u32) -> u32
     ensures { λ r. ⌜ r ≡ word (across 𝔽₁ way (el x) (el y)) ⌝ }
 {
     match way {
-        Way::ToCoefficients => entry::minus(y, x),
-        Way::ToTable => entry::plus(x, y),
+        Way::ToCoefficients => entry::minus(y, x, Field::First),
+        Way::ToTable => entry::plus(x, y, Field::First),
     }
 }
 

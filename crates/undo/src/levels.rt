@@ -1,16 +1,17 @@
 // The levels of one column undone, in place. The inverses of the differences stand behind it in the same slice.
 ghost use mathlib.Core.Path.{_≡_};
 ghost use Prim.Native.Nat.{_<_, _≤_};
-ghost use Rattle.algebra.specs.Words.{𝔽₁};
+ghost use Rattle.residue.specs.Chosen.{chosen};
 ghost use Rattle.job.specs.Limits.{maxDepth, maxRate};
 ghost use Rattle.undo.specs.Steps.{LevelLent, uncrossed, ColumnHalfIs, ColumnLent, ColumnUndone};
+use residue::Field;
 use residue::Residue;
 use words::entry;
 
 // At each place the line through the words u and v of the two halves: its value at 0 instead of u, its slope instead of v.
-fn uncross(n: usize, a: usize, c: usize, t: &[u32], w: &mut [u32])
-    requires { ⌜ LevelLent 𝔽₁ n a c (now t) (now w) ⌝ }
-    ensures { λ _. ⌜ now (w .exit) ≡ uncrossed 𝔽₁ n a c (now (t .entry)) (now (w .entry)) ⌝ }
+fn uncross(n: usize, a: usize, c: usize, t: &[u32], w: &mut [u32], field: Field)
+    requires { ⌜ LevelLent (chosen field) n a c (now t) (now w) ⌝ }
+    ensures { λ _. ⌜ now (w .exit) ≡ uncrossed (chosen field) n a c (now (t .entry)) (now (w .entry)) ⌝ }
 {
     let mut i = 0;
     let mut p = 0;
@@ -18,8 +19,8 @@ fn uncross(n: usize, a: usize, c: usize, t: &[u32], w: &mut [u32])
         let k = n + i;
         let q = a + i;
         let u = w[i];
-        let r = entry::times_gap(w[q], u, w[k]);
-        w[i] = entry::minus_product(u, t[p], r);
+        let r = entry::times_gap(w[q], u, w[k], field);
+        w[i] = entry::minus_product(u, t[p], r, field);
         w[k] = r;
         p += c;
         i += 1;
@@ -50,12 +51,12 @@ fn column_half(depth: u32, c: usize) -> ColumnHalf
 }
 
 // x is the inverse of the base row's first word; the inverses of the differences begin at a.
-pub fn undo(depth: u32, a: usize, x: Residue, c: usize, t: &[u32], w: &mut [u32])
-    requires { ⌜ ColumnLent 𝔽₁ depth a x c (now t) (now w) ⌝ }
-    ensures { λ _. ⌜ ColumnUndone 𝔽₁ depth a x c (now (t .entry)) (now (w .entry)) (now (w .exit)) ⌝ }
+pub fn undo(depth: u32, a: usize, x: Residue, c: usize, t: &[u32], w: &mut [u32], field: Field)
+    requires { ⌜ ColumnLent (chosen field) depth a x c (now t) (now w) ⌝ }
+    ensures { λ _. ⌜ ColumnUndone (chosen field) depth a x c (now (t .entry)) (now (w .entry)) (now (w .exit)) ⌝ }
 {
     if depth == 0 {
-        w[0] = x.times(Residue::new(w[0])).word();
+        w[0] = x.times(Residue::new(w[0], field), field).word();
         return;
     }
     let p = column_half(depth, c);
@@ -64,7 +65,7 @@ pub fn undo(depth: u32, a: usize, x: Residue, c: usize, t: &[u32], w: &mut [u32]
     let low = p.low;
     let q = a + p.skip;
     let b = a - half;
-    uncross(half, q, c, &t[off..], w);
-    undo(low, a, x, c, t, w);
-    undo(low, b, x, c, t, &mut w[half..]);
+    uncross(half, q, c, &t[off..], w, field);
+    undo(low, a, x, c, t, w, field);
+    undo(low, b, x, c, t, &mut w[half..], field);
 }

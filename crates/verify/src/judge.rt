@@ -1,13 +1,14 @@
 // What is judged before any check, in the order of the refusals.
 ghost use mathlib.Core.Path.{_≡_};
 ghost use mathlib.Core.Bool.{_&&_};
-ghost use Rattle.algebra.specs.Words.{𝔽₁};
+ghost use Rattle.residue.specs.Chosen.{chosen};
 ghost use Rattle.job.specs.Outcome.{outcome};
 ghost use Rattle.parameters.specs.Parameters.{inLimits};
 ghost use Rattle.verify.specs.Verifying.{openedLengths, claimWords, judgeVerifying};
 use crate::queries;
 use job::Answer;
 use job::Refusal;
+use residue::Field;
 use residue::Residue;
 use words::scan;
 
@@ -41,25 +42,33 @@ fn lengths_ok(
 }
 
 // Whether all words are below the modulus, where those of row and diagonals are.
-fn words_ok(row: bool, block: &[u32], z: &[u32], y: u32, r: &[u32], opening: &[u32]) -> bool
-    ensures { λ b. ⌜ b ≡ (row && claimWords 𝔽₁ (now (block .entry)) (now (z .entry)) y (now (r .entry)) (now (opening .entry))) ⌝ }
+fn words_ok(
+    row: bool,
+    block: &[u32],
+    z: &[u32],
+    y: u32,
+    r: &[u32],
+    opening: &[u32],
+    field: Field,
+) -> bool
+    ensures { λ b. ⌜ b ≡ (row && claimWords (chosen field) (now (block .entry)) (now (z .entry)) y (now (r .entry)) (now (opening .entry))) ⌝ }
 {
     if !row {
         return false;
     }
-    if !scan::all_below(block) {
+    if !scan::all_below(block, field) {
         return false;
     }
-    if !scan::all_below(z) {
+    if !scan::all_below(z, field) {
         return false;
     }
-    if y >= Residue::MODULUS {
+    if y >= Residue::modulus(field) {
         return false;
     }
-    if !scan::all_below(r) {
+    if !scan::all_below(r, field) {
         return false;
     }
-    scan::all_below(opening)
+    scan::all_below(opening, field)
 }
 
 pub fn judge(
@@ -74,8 +83,9 @@ pub fn judge(
     r: &[u32],
     queries: &[u32],
     opening: &[u32],
+    field: Field,
 ) -> Answer
-    ensures { λ a. ⌜ outcome a ≡ judgeVerifying 𝔽₁ depth rate (now (g .entry)) (now (t .entry)) (now (t2 .entry)) (now (block .entry)) (now (z .entry)) y (now (r .entry)) (now (queries .entry)) (now (opening .entry)) ⌝ }
+    ensures { λ a. ⌜ outcome a ≡ judgeVerifying (chosen field) depth rate (now (g .entry)) (now (t .entry)) (now (t2 .entry)) (now (block .entry)) (now (z .entry)) y (now (r .entry)) (now (queries .entry)) (now (opening .entry)) ⌝ }
 {
     let lengths = lengths_ok(
         depth,
@@ -88,8 +98,8 @@ pub fn judge(
         r.len(),
         opening.len(),
     );
-    let row = parameters::scan_row(lengths, g, t, t2);
-    let words = words_ok(row.words, block, z, y, r, opening);
+    let row = parameters::scan_row(lengths, g, t, t2, field);
+    let words = words_ok(row.words, block, z, y, r, opening, field);
     let six = parameters::judge(depth, rate, g, lengths, words, row.apart);
     let asked = queries::queries_ok(depth, rate, queries);
     let seven = job::require(asked, Refusal::Queries, Answer::Done);

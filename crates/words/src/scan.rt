@@ -4,35 +4,42 @@ ghost use mathlib.Core.Bool.{not, _&&_};
 ghost use Prim.Native.Nat.{_<_, _≤_};
 ghost use lib.Dec.{ltb};
 ghost use lib.ListN.{length, take};
-ghost use Rattle.algebra.specs.Words.{𝔽₁};
-ghost use Rattle.residue.specs.Residues.{P};
-ghost use Rattle.words.specs.Scans.{allBelow, noneZero, PlacesScanned, PairScanned};
+ghost use Rattle.residue.specs.Chosen.{chosen};
+ghost use Rattle.words.specs.Scans.{allUnder, allBelow, noneZero, PlacesScanned, PairScanned};
+use residue::Field;
 use residue::Residue;
 
-// Whether each word is below the modulus.
-pub fn all_below(s: &[u32]) -> bool
-    ensures { λ r. ⌜ r ≡ allBelow 𝔽₁ (now (s .entry)) ⌝ }
+// Whether each word is below p.
+fn all_under(s: &[u32], p: u32) -> bool
+    ensures { λ r. ⌜ r ≡ allUnder p (now (s .entry)) ⌝ }
 {
     let mut ok = true;
     let mut i = 0;
     while i < s.len() {
-        ok = ok & (s[i] < Residue::MODULUS);
+        ok = ok & (s[i] < p);
         i += 1;
     }
     ok
 }
 
-// Whether each word of three slices is below the modulus.
-pub fn three_below(a: &[u32], b: &[u32], c: &[u32]) -> bool
-    ensures { λ r. ⌜ r ≡ (allBelow 𝔽₁ (now (a .entry)) && (allBelow 𝔽₁ (now (b .entry)) && allBelow 𝔽₁ (now (c .entry)))) ⌝ }
+// Whether each word is below the modulus.
+pub fn all_below(s: &[u32], field: Field) -> bool
+    ensures { λ r. ⌜ r ≡ allBelow (chosen field) (now (s .entry)) ⌝ }
 {
-    if !all_below(a) {
+    all_under(s, Residue::modulus(field))
+}
+
+// Whether each word of three slices is below the modulus.
+pub fn three_below(a: &[u32], b: &[u32], c: &[u32], field: Field) -> bool
+    ensures { λ r. ⌜ r ≡ (allBelow (chosen field) (now (a .entry)) && (allBelow (chosen field) (now (b .entry)) && allBelow (chosen field) (now (c .entry)))) ⌝ }
+{
+    if !all_below(a, field) {
         return false;
     }
-    if !all_below(b) {
+    if !all_below(b, field) {
         return false;
     }
-    all_below(c)
+    all_below(c, field)
 }
 
 // Whether no word is 0.
@@ -63,16 +70,16 @@ pub struct PairScan {
     pub apart: bool,
 }
 
-fn either_high(x: u32, y: u32) -> bool
-    ensures { λ r. ⌜ not r ≡ (ltb x P && ltb y P) ⌝ }
+fn either_high(x: u32, y: u32, p: u32) -> bool
+    ensures { λ r. ⌜ not r ≡ (ltb x p && ltb y p) ⌝ }
 {
-    (x >= Residue::MODULUS) | (y >= Residue::MODULUS)
+    (x >= p) | (y >= p)
 }
 
 // Of the first n places. The loop keeps what is wrong: for vectors a test of words that are too large takes less than one of words that are not.
-fn scan_places(n: usize, s: &[u32], t: &[u32]) -> PairScan
+fn scan_places(n: usize, s: &[u32], t: &[u32], p: u32) -> PairScan
     requires { ⌜ (n ≤ length (now s)) × (n ≤ length (now t)) ⌝ }
-    ensures { λ r. ⌜ PlacesScanned 𝔽₁ (take n (now (s .entry))) (take n (now (t .entry))) (r .below) (r .apart) ⌝ }
+    ensures { λ r. ⌜ PlacesScanned p (take n (now (s .entry))) (take n (now (t .entry))) (r .below) (r .apart) ⌝ }
 {
     let mut high = false;
     let mut equal = false;
@@ -80,7 +87,7 @@ fn scan_places(n: usize, s: &[u32], t: &[u32]) -> PairScan
     while j < n {
         let x = s[j];
         let y = t[j];
-        high = high | either_high(x, y);
+        high = high | either_high(x, y, p);
         equal = equal | (x == y);
         j += 1;
     }
@@ -91,13 +98,14 @@ fn scan_places(n: usize, s: &[u32], t: &[u32]) -> PairScan
 }
 
 // Where one slice is longer, the rest of it is read too.
-pub fn scan_pair(s: &[u32], t: &[u32]) -> PairScan
-    ensures { λ r. ⌜ PairScanned 𝔽₁ (now (s .entry)) (now (t .entry)) (r .below) (r .apart) ⌝ }
+pub fn scan_pair(s: &[u32], t: &[u32], field: Field) -> PairScan
+    ensures { λ r. ⌜ PairScanned (chosen field) (now (s .entry)) (now (t .entry)) (r .below) (r .apart) ⌝ }
 {
+    let p = Residue::modulus(field);
     let n = shorter(s.len(), t.len());
-    let places = scan_places(n, s, t);
-    let first = all_below(&s[n..]);
-    let second = all_below(&t[n..]);
+    let places = scan_places(n, s, t, p);
+    let first = all_under(&s[n..], p);
+    let second = all_under(&t[n..], p);
     PairScan {
         below: places.below & (first & second),
         apart: places.apart,

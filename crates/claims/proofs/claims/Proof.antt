@@ -1,5 +1,5 @@
 use mathlib.Core.Path.{sym, ap, _∙_}
-use Rattle.algebra.specs.Words.{𝔽₁}
+use Rattle.residue.specs.Chosen.{chosen}
 use Rattle.algebra.specs.WordLists.{elements}
 use Rattle.claims.specs.Steps.{afterSums}
 use Rattle.claims.proofs.SumChecks.{result-is, last-input}
@@ -20,21 +20,23 @@ last-requires : tie.Need-last-requires
 last-requires c κs =
     let s = c .before .before .before .before .before .before .before in
     let a = s .args in
-    last-input 𝔽₁ (a .depth) (a .y) (a .z .now) (a .r .now) (a .opening .now) _ _ (s .pre) (c .before .claim .given .1) (c .before .before .before .sums .ensures .low)
+    last-input (chosen (a .field)) (a .depth) (a .y) (a .z .now) (a .r .now) (a .opening .now) _ _ (s .pre) (c .before .claim .given .1) (c .before .before .before .sums .ensures .low)
 
 returns : tie.Need-returns
 returns c =
     let s = c .before .before .before .before .before .before .before in
     let a = s .args in
-    ap (afterSums 𝔽₁ (elements 𝔽₁ (a .opening .now)) (elements 𝔽₁ (a .z .now)) (elements 𝔽₁ (a .r .now))) (sym (c .before .i .given .1))
-    ∙ result-is 𝔽₁ (a .depth) (a .y) (a .r .now) (a .opening .now) (s .pre .sums) _ (c .before .before .before .sums .ensures) (elements 𝔽₁ (a .z .now))
+    let 𝓕 = chosen (a .field) in
+    ap (afterSums 𝓕 (elements 𝓕 (a .opening .now)) (elements 𝓕 (a .z .now)) (elements 𝓕 (a .r .now))) (sym (c .before .i .given .1))
+    ∙ result-is 𝓕 (a .depth) (a .y) (a .r .now) (a .opening .now) (s .pre .sums) _ (c .before .before .before .sums .ensures) (elements 𝓕 (a .z .now))
 
 returns-2 : tie.Need-returns-2
 returns-2 c =
     let s = c .before .before .before .before .before .before .before .before in
     let a = s .args in
-    c .last .ensures ∙ ap (afterSums 𝔽₁ (elements 𝔽₁ (a .opening .now)) (elements 𝔽₁ (a .z .now)) (elements 𝔽₁ (a .r .now))) (sym (c .before .before .claim .given .1))
-    ∙ result-is 𝔽₁ (a .depth) (a .y) (a .r .now) (a .opening .now) (s .pre .sums) _ (c .before .before .before .before .sums .ensures) (elements 𝔽₁ (a .z .now))
+    let 𝓕 = chosen (a .field) in
+    c .last .ensures ∙ ap (afterSums 𝓕 (elements 𝓕 (a .opening .now)) (elements 𝓕 (a .z .now)) (elements 𝓕 (a .r .now))) (sym (c .before .before .claim .given .1))
+    ∙ result-is 𝓕 (a .depth) (a .y) (a .r .now) (a .opening .now) (s .pre .sums) _ (c .before .before .before .before .sums .ensures) (elements 𝓕 (a .z .now))
 
 pub claims-spec : {M : Type 1} → statement M
 claims-spec =

@@ -2,30 +2,30 @@ use mathlib.Core.Path.{_≡_, refl, _∙_}
 use Prim.Native.Nat.{ℕ, _-_, _^_, _<_}
 use native.Mathlib.Omega.{arith}
 use lib.ListN.{length, take}
-use Rattle.algebra.specs.Words.{𝔽₁}
+use Rattle.residue.specs.Chosen.{chosen}
 use Rattle.undo.specs.Steps.{decoded}
 use Rattle.columns.proofs.Comparing.{Agrees, message-lent, agree-none, agree-turn, agree-end, differs}
 use Rattle.columns.proofs.same_columns.Statement.{statement}
 use Rattle.columns.proofs.same_columns.Tie as tie
 
 abbrev Inv-loop : tie.InvT-loop
-Inv-loop depth g t t2 block work₀ j₀ work j = (length work ≡ length work₀) × (take (2 ^ depth) work ≡ decoded 𝔽₁ depth g t t2 block) × ((a : ℕ) → a < j → Agrees 𝔽₁ depth g t t2 block a)
+Inv-loop depth g t t2 block work₀ field j₀ work j = (length work ≡ length work₀) × (take (2 ^ depth) work ≡ decoded (chosen field) depth g t t2 block) × ((a : ℕ) → a < j → Agrees (chosen field) depth g t t2 block a)
 
 abbrev μ-loop : tie.MeasureT-loop
-μ-loop depth g t t2 block work₀ j₀ work j = length g - j
+μ-loop depth g t t2 block work₀ field j₀ work j = length g - j
 
 loop-holds : tie.Need-loop-holds Inv-loop μ-loop
 loop-holds c =
     let s = c .before .before .before .before .before in
     let a = s .args in
-    (refl, s .pre .1, agree-none 𝔽₁ (a .depth) (a .g .now) (a .t .now) (a .t2 .now) (a .block .now) (length (a .work .now)) (s .pre .0))
+    (refl, s .pre .1, agree-none (chosen (a .field)) (a .depth) (a .g .now) (a .t .now) (a .t2 .now) (a .block .now) (length (a .work .now)) (s .pre .0))
 
 same-column-requires : tie.Need-same-column-requires Inv-loop μ-loop
 same-column-requires c κs =
     let s = c .before .before .before .before .before .before .before .before in
     let a = s .args in
     let l = c .before .before .loop in
-    message-lent 𝔽₁ (a .depth) (a .g .now) (a .t .now) (a .t2 .now) (a .block .now) (length (a .work .now)) (s .pre .0) (l .j) (l .work) (omega arith) (l .inv .0) (l .inv .1)
+    message-lent (chosen (a .field)) (a .depth) (a .g .now) (a .t .now) (a .t2 .now) (a .block .now) (length (a .work .now)) (s .pre .0) (l .j) (l .work) (omega arith) (l .inv .0) (l .inv .1)
 
 same-length : tie.Need-same-length Inv-loop μ-loop
 same-length c =
@@ -39,7 +39,7 @@ returns c =
     let s = c .before .before .before .before .before .before .before .before .before .before .before .before in
     let a = s .args in
     let l = c .before .before .before .before .before .before .loop in
-    (differs 𝔽₁ (a .depth) (a .g .now) (a .t .now) (a .t2 .now) (a .block .now) (length (a .work .now)) (s .pre .0) (l .j) (l .work) (l .inv .1) (c .before .before .before .same-column .result) (c .before .before .before .same-column .ensures .0) (omega arith) (c .if1 .taken), c .before .before .before .same-column .ensures .1 ∙ l .inv .1)
+    (differs (chosen (a .field)) (a .depth) (a .g .now) (a .t .now) (a .t2 .now) (a .block .now) (length (a .work .now)) (s .pre .0) (l .j) (l .work) (l .inv .1) (c .before .before .before .same-column .result) (c .before .before .before .same-column .ensures .0) (omega arith) (c .if1 .taken), c .before .before .before .same-column .ensures .1 ∙ l .inv .1)
 
 add-j : tie.Need-add-j Inv-loop μ-loop
 add-j c = omega arith
@@ -52,7 +52,7 @@ loop-again c =
     let s = c .before .before .before .before .before .before .before .before .before .before .before .before in
     let a = s .args in
     let l = c .before .before .before .before .before .before .loop in
-    (c .before .before .before .same-column .kept .1 .1 .1 .1 .1 .1 .0 ∙ l .inv .0, c .before .before .before .same-column .ensures .1 ∙ l .inv .1, agree-turn 𝔽₁ (a .depth) (a .g .now) (a .t .now) (a .t2 .now) (a .block .now) (length (a .work .now)) (s .pre .0) (l .j) (l .work) (l .inv .1) (c .before .before .before .same-column .result) (c .before .before .before .same-column .ensures .0) (c .if1 .left) (l .inv .2))
+    (c .before .before .before .same-column .kept .1 .1 .1 .1 .1 .1 .0 ∙ l .inv .0, c .before .before .before .same-column .ensures .1 ∙ l .inv .1, agree-turn (chosen (a .field)) (a .depth) (a .g .now) (a .t .now) (a .t2 .now) (a .block .now) (length (a .work .now)) (s .pre .0) (l .j) (l .work) (l .inv .1) (c .before .before .before .same-column .result) (c .before .before .before .same-column .ensures .0) (c .if1 .left) (l .inv .2))
 
 same-length-2 : tie.Need-same-length-2 Inv-loop μ-loop
 same-length-2 c = c .before .loop .inv .0
@@ -62,7 +62,7 @@ returns-2 c =
     let s = c .before .before .before .before .before .before .before in
     let a = s .args in
     let l = c .before .loop in
-    (agree-end 𝔽₁ (a .depth) (a .g .now) (a .t .now) (a .t2 .now) (a .block .now) (length (a .work .now)) (s .pre .0) (l .j) (omega arith) (l .inv .2), l .inv .1)
+    (agree-end (chosen (a .field)) (a .depth) (a .g .now) (a .t .now) (a .t2 .now) (a .block .now) (length (a .work .now)) (s .pre .0) (l .j) (omega arith) (l .inv .2), l .inv .1)
 
 pub same-columns-spec : {M : Type 1} → statement M
 same-columns-spec =

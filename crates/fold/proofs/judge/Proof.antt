@@ -1,4 +1,4 @@
-use Rattle.algebra.specs.Words.{𝔽₁}
+use Rattle.residue.specs.Chosen.{chosen}
 use Rattle.fold.proofs.Judged.{judged}
 use borrow.Author.Needs.{needs}
 use Rattle.fold.proofs.judge.Statement.{statement}
@@ -37,7 +37,7 @@ require-requires-5 c κs = search needs
 returns : tie.Need-returns
 returns c =
     let a = c .before .before .before .before .before .before .before .before .before .before .before .before .before .args in
-    judged 𝔽₁ (a .level) (a .rate) (a .t .now) (a .t2 .now) (a .block .now) (a .challenge) (a .out)
+    judged (chosen (a .field)) (a .level) (a .rate) (a .t .now) (a .t2 .now) (a .block .now) (a .challenge) (a .out)
     (c .before .before .before .before .before .before .before .before .before .level-ok .ensures) (c .before .before .before .before .before .before .before .before .rate-ok .ensures) (c .before .before .before .before .before .before .before .lengths-ok .ensures) (c .before .before .before .before .before .before .scan-diagonals .ensures .0) (c .before .before .before .before .before .before .scan-diagonals .ensures .1) (c .before .before .before .before .before .words-ok .ensures)
     (c .before .before .before .before .require .ensures) (c .before .before .before .require2 .ensures) (c .before .before .require3 .ensures) (c .before .require4 .ensures) (c .require5 .ensures)
 

@@ -2,8 +2,8 @@ use mathlib.Core.Path.{ap, _∙_}
 use native.Mathlib.Omega.{arith}
 use lib.ListN.{length, length-take}
 use borrow.Author.Needs.{needs}
-use Rattle.algebra.specs.Words.{𝔽₁}
-use Rattle.residue.specs.Residues.{el, word, _⊞_, _⊠_}
+use Rattle.residue.specs.Elements.{sumProduct}
+use Rattle.residue.specs.Chosen.{chosen}
 use Rattle.residue.specs.ResidueLaws.{is-low}
 use Rattle.polynomial.specs.EvaluationLaws.{length-lower, left-input, right-input}
 use Rattle.polynomial.proofs.Values.{lent, summed, monomials-lower, joined}
@@ -35,13 +35,13 @@ by-top-of-products-requires : (t : ℕ) → by-top-lts.Need-of-products-requires
 by-top-of-products-requires t c κs =
     let s = c .before .before .before .before in
     let a = s .args in
-    lent 𝔽₁ (a .w .now) (a .m .now) (a .z .now) (s .pre .1 .0) (s .pre .1 .1) (omega arith)
+    lent (chosen (a .field)) (a .w .now) (a .m .now) (a .z .now) (s .pre .1 .0) (s .pre .1 .1) (omega arith)
 
 by-top-returns : (t : ℕ) → by-top-lts.Need-returns (rs t) (by-top-at t) by-top.Post
 by-top-returns t c =
     let s = c .before .before .before .before .before in
     let a = s .args in
-    summed 𝔽₁ (a .w .now) (a .m .now) (a .z .now) (s .pre .1 .0) (s .pre .1 .1) (omega arith) (c .of-products .ensures)
+    summed (chosen (a .field)) (a .w .now) (a .m .now) (a .z .now) (s .pre .1 .0) (s .pre .1 .1) (omega arith) (c .of-products .ensures)
 
 by-top-sub-top : (t : ℕ) → by-top-lts.Need-sub-top (rs t) (by-top-at t) by-top.Post
 by-top-sub-top t c = omega arith
@@ -55,9 +55,10 @@ by-top-slice-aggregate-by-top-2 t c = simp length-take (omega arith)
 by-top-by-top-requires : (t : ℕ) → by-top-lts.Need-by-top-requires (rs t) (by-top-at t) by-top.Post
 by-top-by-top-requires t c κs =
     let s = c .before .before .before .before .before in
-    let a = s .args in (
-      omega (arith, length-lower 𝔽₁ (a .m .now) (a .z .now) (s .pre .1 .0) (omega arith)),
-      (left-input 𝔽₁ (a .m .now) (a .z .now) (s .pre .1 .0) (omega arith), monomials-lower 𝔽₁ (a .w .now) (a .z .now) (omega arith) (s .pre .1 .1)),
+    let a = s .args in
+    let 𝓕 = chosen (a .field) in (
+      omega (arith, length-lower 𝓕 (a .m .now) (a .z .now) (s .pre .1 .0) (omega arith)),
+      (left-input 𝓕 (a .m .now) (a .z .now) (s .pre .1 .0) (omega arith), monomials-lower 𝓕 (a .w .now) (a .z .now) (omega arith) (s .pre .1 .1)),
     )
 
 by-top-mul-by-top : (t : ℕ) → by-top-lts.Need-mul-by-top (rs t) (by-top-at t) by-top.Post
@@ -78,9 +79,10 @@ by-top-slice-aggregate-by-top-3 t c = simp length-take (omega arith)
 by-top-by-top-requires-2 : (t : ℕ) → by-top-lts.Need-by-top-requires-2 (rs t) (by-top-at t) by-top.Post
 by-top-by-top-requires-2 t c κs =
     let s = c .before .before .before .before .before .before .before .before in
-    let a = s .args in (
-      omega (arith, length-lower 𝔽₁ (a .m .now) (a .z .now) (s .pre .1 .0) (omega arith)),
-      (right-input 𝔽₁ (a .m .now) (a .z .now) (s .pre .1 .0) (omega arith), monomials-lower 𝔽₁ (a .w .now) (a .z .now) (omega arith) (s .pre .1 .1)),
+    let a = s .args in
+    let 𝓕 = chosen (a .field) in (
+      omega (arith, length-lower 𝓕 (a .m .now) (a .z .now) (s .pre .1 .0) (omega arith)),
+      (right-input 𝓕 (a .m .now) (a .z .now) (s .pre .1 .0) (omega arith), monomials-lower 𝓕 (a .w .now) (a .z .now) (omega arith) (s .pre .1 .1)),
     )
 
 by-top-mul-new : (t : ℕ) → by-top-lts.Need-mul-new (rs t) (by-top-at t) by-top.Post
@@ -93,18 +95,19 @@ by-top-new-requires : (t : ℕ) → by-top-lts.Need-new-requires (rs t) (by-top-
 by-top-new-requires t c κs = c .before .before .before .before .before .before .before .before .before .before .pre .1 .0 .point .low _ (omega arith)
 
 by-top-plus-product-requires : (t : ℕ) → by-top-lts.Need-plus-product-requires (rs t) (by-top-at t) by-top.Post
-by-top-plus-product-requires t c κs = (
-  omega (arith, is-low 𝔽₁ _ (c .before .before .before .before .before .by-top .ensures)),
+by-top-plus-product-requires t c κs = let 𝓕 = chosen (c .before .before .before .before .before .before .before .before .before .before .before .args .field) in (
+  omega (arith, is-low 𝓕 _ (c .before .before .before .before .before .by-top .ensures)),
   rw (c .new .ensures) (c .before .before .before .before .before .before .before .before .before .before .before .pre .1 .0 .point .low _ (omega arith)),
-  omega (arith, is-low 𝔽₁ _ (c .before .before .by-top2 .ensures)),
+  omega (arith, is-low 𝓕 _ (c .before .before .by-top2 .ensures)),
 )
 
 by-top-returns-2 : (t : ℕ) → by-top-lts.Need-returns-2 (rs t) (by-top-at t) by-top.Post
 by-top-returns-2 t c =
     let s = c .before .before .before .before .before .before .before .before .before .before .before .before in
     let a = s .args in
-    joined 𝔽₁ (a .m .now) (a .z .now) (s .pre .1 .0) (omega arith) _ _ _ (c .before .before .before .before .before .before .by-top .ensures) (c .before .before .before .by-top2 .ensures)
-    (c .plus-product .ensures ∙ ap (λ x. word (el (c .before .before .before .before .before .before .by-top .result .0) ⊞ el x ⊠ el (c .before .before .before .by-top2 .result .0))) (c .before .new .ensures))
+    let 𝓕 = chosen (a .field) in
+    joined 𝓕 (a .m .now) (a .z .now) (s .pre .1 .0) (omega arith) _ _ _ (c .before .before .before .before .before .before .by-top .ensures) (c .before .before .before .by-top2 .ensures)
+    (c .plus-product .ensures ∙ ap (λ x. sumProduct 𝓕 (c .before .before .before .before .before .before .by-top .result .0) x (c .before .before .before .by-top2 .result .0)) (c .before .new .ensures))
 
 pub +by-top-spec : {M : Type 1} → statement M
 +by-top-spec = close μ-by-top λ t. by-top-lts.spec (rs t)

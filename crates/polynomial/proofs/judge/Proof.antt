@@ -3,7 +3,7 @@ use mathlib.Core.Path.{_∙_}
 use mathlib.Core.Bool.{_&&_}
 use lib.ListN.{length}
 use borrow.Author.Needs.{needs}
-use Rattle.algebra.specs.Words.{𝔽₁}
+use Rattle.residue.specs.Chosen.{chosen}
 use Rattle.job.specs.Limits.{depthOk}
 use Rattle.job.specs.Outcome.{require}
 use Rattle.job.specs.OutcomeLaws.{link, last, guarded}
@@ -36,9 +36,10 @@ returns c =
     let r = c .before .before in
     let s = r .before .before in
     let a = s .before .before .before .before .args in
+    let 𝓕 = chosen (a .field) in
     link _ 1 (c .require3 .ensures) (s .before .depth-ok .ensures)
     (link _ 3 (c .before .require2 .ensures) (s .lengths-ok .ensures) (last _ 4 (r .require .ensures) (r .before .words-ok .ensures)))
-    ∙ guarded (depthOk (a .depth)) (evaluateLengths (a .depth) (length (a .m .now)) (length (a .z .now))) 1 3 (require (allBelow 𝔽₁ (a .m .now) && allBelow 𝔽₁ (a .z .now)) 4)
+    ∙ guarded (depthOk (a .depth)) (evaluateLengths (a .depth) (length (a .m .now)) (length (a .z .now))) 1 3 (require (allBelow 𝓕 (a .m .now) && allBelow 𝓕 (a .z .now)) 4)
 
 pub judge-spec : {M : Type 1} → statement M
 judge-spec =

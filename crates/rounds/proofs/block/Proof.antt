@@ -1,4 +1,4 @@
-use Rattle.algebra.specs.Words.{𝔽₁}
+use Rattle.residue.specs.Chosen.{chosen}
 use Rattle.rounds.proofs.OneRound.{fold-input, fold-given}
 use borrow.Author.Needs.{needs}
 use Rattle.rounds.proofs.block.Statement.{statement}
@@ -8,13 +8,13 @@ folds-requires : tie.Need-folds-requires
 folds-requires c κs = search needs
 
 fold-block-requires : tie.Need-fold-block-requires
-fold-block-requires c κs = let s = c .before .before .before .before .before .before .before .before .before in let a = s .args in fold-input 𝔽₁ (a .depth) (a .i) (a .g .now) (a .t .now) (a .t2 .now) (a .r .now) (a .opening .now) (a .work .now) (s .pre) (c .before .before .folds .ensures (c .before .if1 .taken))
+fold-block-requires c κs = let s = c .before .before .before .before .before .before .before .before .before in let a = s .args in fold-input (chosen (a .field)) (a .depth) (a .i) (a .g .now) (a .t .now) (a .t2 .now) (a .r .now) (a .opening .now) (a .work .now) (s .pre) (c .before .before .folds .ensures (c .before .if1 .taken))
 
 same-length : tie.Need-same-length
 same-length c = search needs
 
 returns : tie.Need-returns
-returns c = let s = c .before .before .before .before .before .before .before .before .before .before .before .before in let a = s .args in fold-given 𝔽₁ (a .depth) (a .i) (a .g .now) (a .t .now) (a .t2 .now) (a .r .now) (a .opening .now) (a .work .now) (s .pre) (c .before .before .before .before .before .folds .ensures (c .before .before .before .before .if1 .taken)) _ (c .before .before .fold-block .ensures)
+returns c = let s = c .before .before .before .before .before .before .before .before .before .before .before .before in let a = s .args in fold-given (chosen (a .field)) (a .depth) (a .i) (a .g .now) (a .t .now) (a .t2 .now) (a .r .now) (a .opening .now) (a .work .now) (s .pre) (c .before .before .before .before .before .folds .ensures (c .before .before .before .before .if1 .taken)) _ (c .before .before .fold-block .ensures)
 
 give-block-requires : tie.Need-give-block-requires
 give-block-requires c κs = search needs

@@ -1,4 +1,4 @@
-use Rattle.algebra.specs.Words.{𝔽₁}
+use Rattle.residue.specs.Chosen.{chosen}
 use Rattle.rounds.proofs.OneRound.{block-input, round-result}
 use borrow.Author.Needs.{needs}
 use Rattle.rounds.proofs.round.Statement.{statement}
@@ -11,7 +11,7 @@ take-challenge-requires : tie.Need-take-challenge-requires
 take-challenge-requires c κs = search needs
 
 block-requires : tie.Need-block-requires
-block-requires c κs = let s = c .before .before .before .before .before .before .before .before .before .before .before .before .before .before .before .before .before .before in let a = s .args in block-input 𝔽₁ (a .depth) (a .i) (a .w) (a .g .now) (a .t .now) (a .t2 .now) (a .z .now) (a .r .now) (a .opening .now) (a .work .now) (s .pre) _ _ (c .before .before .before .before .take-challenge .ensures) _ (c .before .before .before .before .before .before .before .before .give-round .ensures) (c .before .before .before .before .before .before .before .before .give-round .kept .1 .1 .1 .1 .0)
+block-requires c κs = let s = c .before .before .before .before .before .before .before .before .before .before .before .before .before .before .before .before .before .before in let a = s .args in block-input (chosen (a .field)) (a .depth) (a .i) (a .w) (a .g .now) (a .t .now) (a .t2 .now) (a .z .now) (a .r .now) (a .opening .now) (a .work .now) (s .pre) _ _ (c .before .before .before .before .take-challenge .ensures) _ (c .before .before .before .before .before .before .before .before .give-round .ensures) (c .before .before .before .before .before .before .before .before .give-round .kept .1 .1 .1 .1 .0)
 
 same-length : tie.Need-same-length
 same-length c = search needs
@@ -20,7 +20,7 @@ same-length-2 : tie.Need-same-length-2
 same-length-2 c = search needs
 
 returns : tie.Need-returns
-returns c = let a = c .before .before .before .before .before .before .before .before .before .before .before .before .before .before .before .before .before .before .before .before .before .args in round-result 𝔽₁ (a .depth) (a .i) (a .w) (a .g .now) (a .t .now) (a .t2 .now) (a .z .now) (a .r .now) (a .work .now) _ _ (c .before .before .before .before .before .before .before .take-challenge .ensures) (a .opening .now) _ _ (c .before .before .before .before .before .before .before .before .before .before .before .give-round .ensures) (c .before .before .block .ensures)
+returns c = let a = c .before .before .before .before .before .before .before .before .before .before .before .before .before .before .before .before .before .before .before .before .before .args in round-result (chosen (a .field)) (a .depth) (a .i) (a .w) (a .g .now) (a .t .now) (a .t2 .now) (a .z .now) (a .r .now) (a .work .now) _ _ (c .before .before .before .before .before .before .before .take-challenge .ensures) (a .opening .now) _ _ (c .before .before .before .before .before .before .before .before .before .before .before .give-round .ensures) (c .before .before .block .ensures)
 
 pub round-spec : {M : Type 1} → statement M
 round-spec =

@@ -2,31 +2,31 @@ use mathlib.Core.Path.{refl, sym, _∙_}
 use Prim.Native.Nat.{_-_, _^_}
 use native.Mathlib.Omega.{arith}
 use lib.ListN.{take}
-use Rattle.algebra.specs.Words.{𝔽₁}
+use Rattle.residue.specs.Chosen.{chosen}
 use Rattle.rounds.proofs.AllRounds.{BeforeRound, before-first, round-input, before-next, after-last}
 use Rattle.rounds.proofs.rounds.Statement.{statement}
 use Rattle.rounds.proofs.rounds.Tie as tie
 
 abbrev Inv-loop : tie.InvT-loop
-Inv-loop depth g t t2 z r opening₀ work₀ w₀ i₀ opening work w i = BeforeRound 𝔽₁ depth g t t2 (take (2 ^ depth) work₀) z r i w opening work
+Inv-loop depth g t t2 z r opening₀ work₀ field w₀ i₀ opening work w i = BeforeRound (chosen field) depth g t t2 (take (2 ^ depth) work₀) z r i w opening work
 
 abbrev μ-loop : tie.MeasureT-loop
-μ-loop depth g t t2 z r opening₀ work₀ w₀ i₀ opening work w i = i
+μ-loop depth g t t2 z r opening₀ work₀ field w₀ i₀ opening work w i = i
 
 loop-holds : tie.Need-loop-holds Inv-loop μ-loop
-loop-holds c = let s = c .before .before .before .before .before .before .before in let a = s .args in before-first 𝔽₁ (a .depth) (a .g .now) (a .t .now) (a .t2 .now) _ (a .z .now) (a .r .now) _ _ (s .pre) _ refl (a .opening .now) (a .work .now) refl refl refl
+loop-holds c = let s = c .before .before .before .before .before .before .before in let a = s .args in before-first (chosen (a .field)) (a .depth) (a .g .now) (a .t .now) (a .t2 .now) _ (a .z .now) (a .r .now) _ _ (s .pre) _ refl (a .opening .now) (a .work .now) refl refl refl
 
 sub-i : tie.Need-sub-i Inv-loop μ-loop
 sub-i c = omega arith
 
 round-requires : tie.Need-round-requires Inv-loop μ-loop
-round-requires c κs = let s = c .before .before .before .before .before .before .before .before .before .before .before in let a = s .args in let l = c .before .before .before .loop in round-input 𝔽₁ (a .depth) (a .g .now) (a .t .now) (a .t2 .now) _ (a .z .now) (a .r .now) _ _ (s .pre) (l .i - 1) (l .i) (l .w) (omega arith) (l .opening) (l .work) (l .inv)
+round-requires c κs = let s = c .before .before .before .before .before .before .before .before .before .before .before in let a = s .args in let l = c .before .before .before .loop in round-input (chosen (a .field)) (a .depth) (a .g .now) (a .t .now) (a .t2 .now) _ (a .z .now) (a .r .now) _ _ (s .pre) (l .i - 1) (l .i) (l .w) (omega arith) (l .opening) (l .work) (l .inv)
 
 loop-less : tie.Need-loop-less Inv-loop μ-loop
 loop-less c = omega arith
 
 loop-again : tie.Need-loop-again Inv-loop μ-loop
-loop-again c = let s = c .before .before .before .before .before .before .before .before .before .before .before .before .before .before .before .before in let a = s .args in let l = c .before .before .before .before .before .before .before .before .loop in before-next 𝔽₁ (a .depth) (a .g .now) (a .t .now) (a .t2 .now) _ (a .z .now) (a .r .now) _ _ (s .pre) (l .i - 1) (l .i) (l .w) (omega arith) (l .opening) (l .work) (l .inv) _ _ _ (c .before .before .before .before .round .ensures)
+loop-again c = let s = c .before .before .before .before .before .before .before .before .before .before .before .before .before .before .before .before in let a = s .args in let l = c .before .before .before .before .before .before .before .before .loop in before-next (chosen (a .field)) (a .depth) (a .g .now) (a .t .now) (a .t2 .now) _ (a .z .now) (a .r .now) _ _ (s .pre) (l .i - 1) (l .i) (l .w) (omega arith) (l .opening) (l .work) (l .inv) _ _ _ (c .before .before .before .before .round .ensures)
 
 same-length : tie.Need-same-length Inv-loop μ-loop
 same-length c = let s = c .before .before .before .before .before .before .before .before .before in let l = c .before .loop in l .inv .size ∙ sym (s .pre .opens)
@@ -35,7 +35,7 @@ same-length-2 : tie.Need-same-length-2 Inv-loop μ-loop
 same-length-2 c = let s = c .before .before .before .before .before .before .before .before .before in let l = c .before .loop in l .inv .room ∙ sym (s .pre .room)
 
 returns : tie.Need-returns Inv-loop μ-loop
-returns c = let s = c .before .before .before .before .before .before .before .before .before in let a = s .args in let l = c .before .loop in after-last 𝔽₁ (a .depth) (a .g .now) (a .t .now) (a .t2 .now) _ (a .z .now) (a .r .now) _ _ (s .pre) (l .i) (l .w) (omega arith) (l .opening) (l .work) (l .inv)
+returns c = let s = c .before .before .before .before .before .before .before .before .before in let a = s .args in let l = c .before .loop in after-last (chosen (a .field)) (a .depth) (a .g .now) (a .t .now) (a .t2 .now) _ (a .z .now) (a .r .now) _ _ (s .pre) (l .i) (l .w) (omega arith) (l .opening) (l .work) (l .inv)
 
 pub rounds-spec : {M : Type 1} → statement M
 rounds-spec =

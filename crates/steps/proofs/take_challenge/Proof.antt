@@ -1,9 +1,9 @@
 use mathlib.Core.Path.{ap₂, _∙_}
 use native.Mathlib.Omega.{arith}
 use lib.ListN.{length-take}
-use Rattle.algebra.specs.Words.{𝔽₁}
-use Rattle.polynomial.specs.Eq.{factor}
-use Rattle.residue.specs.Residues.{el, elem, word, _⊠_}
+use Rattle.residue.specs.Elements.{el, elem, word}
+use Rattle.residue.specs.Chosen.{chosen}
+use Rattle.steps.specs.Steps.{weighed}
 use Rattle.steps.proofs.Takes.{whole-within, fold-input, challenge-taken}
 use borrow.Author.Needs.{needs}
 use Rattle.steps.proofs.take_challenge.Statement.{statement}
@@ -25,13 +25,13 @@ new-requires : tie.Need-new-requires
 new-requires c κs = let s = c .before .before .before .before .before in s .pre .low' .low _ (s .pre .challenge)
 
 slice-relend-prefix-fold : tie.Need-slice-relend-prefix-fold
-slice-relend-prefix-fold c = let s = c .before .before .before .before .before .before in let a = s .args in whole-within 𝔽₁ (a .i) (a .w) (a .z .now) (a .r .now) (a .work .now) (s .pre) _ _ (c .before .before .message-len .ensures) (c .new .ensures)
+slice-relend-prefix-fold c = let s = c .before .before .before .before .before .before in let a = s .args in whole-within (chosen (a .field)) (a .i) (a .w) (a .z .now) (a .r .now) (a .work .now) (s .pre) _ _ (c .before .before .message-len .ensures) (c .new .ensures)
 
 slice-aggregate-fold : tie.Need-slice-aggregate-fold
-slice-aggregate-fold c = let s = c .before .before .before .before .before .before .before in let a = s .args in simp length-take (omega (arith, whole-within 𝔽₁ (a .i) (a .w) (a .z .now) (a .r .now) (a .work .now) (s .pre) _ _ (c .before .before .before .message-len .ensures) (c .before .new .ensures)))
+slice-aggregate-fold c = let s = c .before .before .before .before .before .before .before in let a = s .args in simp length-take (omega (arith, whole-within (chosen (a .field)) (a .i) (a .w) (a .z .now) (a .r .now) (a .work .now) (s .pre) _ _ (c .before .before .before .message-len .ensures) (c .before .new .ensures)))
 
 fold-requires : tie.Need-fold-requires
-fold-requires c κs = let s = c .before .before .before .before .before .before .before in let a = s .args in fold-input 𝔽₁ (a .i) (a .w) (a .z .now) (a .r .now) (a .work .now) (s .pre) _ _ (c .before .before .before .message-len .ensures) (c .before .new .ensures)
+fold-requires c κs = let s = c .before .before .before .before .before .before .before in let a = s .args in fold-input (chosen (a .field)) (a .i) (a .w) (a .z .now) (a .r .now) (a .work .now) (s .pre) _ _ (c .before .before .before .message-len .ensures) (c .before .new .ensures)
 
 mul-new-2 : tie.Need-mul-new-2
 mul-new-2 c = search needs
@@ -52,9 +52,10 @@ returns : tie.Need-returns
 returns c =
     let s = c .before .before .before .before .before .before .before .before .before .before .before .before .before in
     let a = s .args in
+    let 𝓕 = chosen (a .field) in
     record {
-      weight = c .weigh .ensures ∙ ap₂ (λ z x. word (elem (a .w) ⊠ factor 𝔽₁ (el z) (el x))) (c .before .new2 .ensures) (c .before .before .before .before .before .before .before .new .ensures);
-      left = challenge-taken 𝔽₁ (a .i) (a .w) (a .z .now) (a .r .now) (a .work .now) (s .pre) _ _ (c .before .before .before .before .before .before .before .before .before .message-len .ensures) (c .before .before .before .before .before .before .before .new .ensures) _ (c .before .before .before .before .before .fold .ensures);
+      weight = c .weigh .ensures ∙ ap₂ (λ z x. word 𝓕 (weighed 𝓕 (elem 𝓕 (a .w)) (el 𝓕 z) (el 𝓕 x))) (c .before .new2 .ensures) (c .before .before .before .before .before .before .before .new .ensures);
+      left = challenge-taken 𝓕 (a .i) (a .w) (a .z .now) (a .r .now) (a .work .now) (s .pre) _ _ (c .before .before .before .before .before .before .before .before .before .message-len .ensures) (c .before .before .before .before .before .before .before .new .ensures) _ (c .before .before .before .before .before .fold .ensures);
     }
 
 pub take-challenge-spec : {M : Type 1} → statement M

@@ -1,4 +1,4 @@
-use Rattle.algebra.specs.Words.{𝔽₁}
+use Rattle.residue.specs.Chosen.{chosen}
 use Rattle.residue.specs.ResidueLaws.{is-low}
 use native.Mathlib.Omega.{arith}
 use Rattle.claims.proofs.FinalCheck.{final-fails, final-holds}
@@ -22,7 +22,7 @@ eq-requires : tie.Need-eq-requires
 eq-requires c κs = search needs
 
 times-requires : tie.Need-times-requires
-times-requires c κs = let s = c .before .before .before .before .before .before .before in (rw (c .before .new .ensures) (s .pre .sums .opening .low _ (omega (arith, c .before .before .before .final-at .ensures, s .pre .sums .long))), is-low 𝔽₁ _ (c .eq .ensures))
+times-requires c κs = let s = c .before .before .before .before .before .before .before in (rw (c .before .new .ensures) (s .pre .sums .opening .low _ (omega (arith, c .before .before .before .final-at .ensures, s .pre .sums .long))), is-low (chosen (s .args .field)) _ (c .eq .ensures))
 
 same-requires : tie.Need-same-requires
 same-requires c κs = search needs
@@ -31,13 +31,13 @@ returns : tie.Need-returns
 returns c =
     let s = c .before .before .before .before .before .before .before .before .before .before in
     let a = s .args in
-    final-fails 𝔽₁ (a .depth) (a .claim) (a .z .now) (a .r .now) (a .opening .now) (s .pre) _ _ _ _ _ (c .before .before .before .before .before .before .final-at .ensures) (c .before .before .before .before .new .ensures) (c .before .before .before .eq .ensures) (c .before .before .times .ensures) (c .before .same .ensures) (c .if1 .taken)
+    final-fails (chosen (a .field)) (a .depth) (a .claim) (a .z .now) (a .r .now) (a .opening .now) (s .pre) _ _ _ _ _ (c .before .before .before .before .before .before .final-at .ensures) (c .before .before .before .before .new .ensures) (c .before .before .before .eq .ensures) (c .before .before .times .ensures) (c .before .same .ensures) (c .if1 .taken)
 
 returns-2 : tie.Need-returns-2
 returns-2 c =
     let s = c .before .before .before .before .before .before .before .before .before .before in
     let a = s .args in
-    final-holds 𝔽₁ (a .depth) (a .claim) (a .z .now) (a .r .now) (a .opening .now) (s .pre) _ _ _ _ _ (c .before .before .before .before .before .before .final-at .ensures) (c .before .before .before .before .new .ensures) (c .before .before .before .eq .ensures) (c .before .before .times .ensures) (c .before .same .ensures) (c .if1 .left)
+    final-holds (chosen (a .field)) (a .depth) (a .claim) (a .z .now) (a .r .now) (a .opening .now) (s .pre) _ _ _ _ _ (c .before .before .before .before .before .before .final-at .ensures) (c .before .before .before .before .new .ensures) (c .before .before .before .eq .ensures) (c .before .before .times .ensures) (c .before .same .ensures) (c .if1 .left)
 
 pub last-spec : {M : Type 1} → statement M
 last-spec =

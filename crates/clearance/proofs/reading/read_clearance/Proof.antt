@@ -35,8 +35,8 @@ word-requires c κs = search needs
 word-requires-2 : tie.Need-word-requires-2
 word-requires-2 c κs = search needs
 
-sub-t14 : tie.Need-sub-t14
-sub-t14 c = let s = same (c .before .before .before) in omega (arith, s .is, s .low)
+sub-t15 : tie.Need-sub-t15
+sub-t15 c = let s = same (c .before .before .before) in omega (arith, s .is, s .low)
 
 returns-2 : tie.Need-returns-2
 returns-2 c =
@@ -64,7 +64,7 @@ read-clearance-spec =
     returns
     word-requires
     word-requires-2
-    sub-t14
+    sub-t15
     returns-2
     returns-3
     returns-4)

@@ -42,8 +42,8 @@ to-clearance-requires c κs =
     let z = c .before .before .before .before .before in
     rw (c .new .ensures ∙ filled-old (l .inv .4) (l .i) 0 (omega arith)) (z .pre .1 .low (l .i) (omega arith))
 
-mul-t10 : tie.Need-mul-t10 Inv-loop μ-loop
-mul-t10 c = search needs
+mul-t11 : tie.Need-mul-t11 Inv-loop μ-loop
+mul-t11 c = search needs
 
 slice-set-from-out : tie.Need-slice-set-from-out Inv-loop μ-loop
 slice-set-from-out c = search needs
@@ -99,7 +99,7 @@ to-clearances-spec =
     slice-read-new
     new-requires
     to-clearance-requires
-    mul-t10
+    mul-t11
     slice-set-from-out
     mul-s
     slice-write-s

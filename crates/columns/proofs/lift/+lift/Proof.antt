@@ -1,7 +1,7 @@
 use native.Mathlib.Omega.{arith}
 use borrow.Author.Needs.{needs}
 use lib.ListN.{length-take}
-use Rattle.algebra.specs.Words.{𝔽₁}
+use Rattle.residue.specs.Chosen.{chosen}
 use Rattle.columns.proofs.Lifting.{lift-none, half-within, lift-left, right-within, lift-right, crossing, level}
 use Prim.Native.Nat.{ℕ, _<_}
 use borrow.Fn.Kinds.{In}
@@ -30,7 +30,7 @@ lift-returns : (t : ℕ) → lift-lts.Need-returns (rs t) (lift-at t) lift.Post
 lift-returns t c =
     let s = c .before .before .before .before .before in
     let a = s .args in
-    lift-none 𝔽₁ (a .depth) (a .j) (a .g .now) (a .t .now) (a .t2 .now) (a .w .now) (s .pre .1) (omega arith)
+    lift-none (chosen (a .field)) (a .depth) (a .j) (a .g .now) (a .t .now) (a .t2 .now) (a .w .now) (s .pre .1) (omega arith)
 
 lift-column-half-requires : (t : ℕ) → lift-lts.Need-column-half-requires (rs t) (lift-at t) lift.Post
 lift-column-half-requires t c κs =
@@ -43,42 +43,42 @@ lift-slice-relend-prefix-lift t c =
     let s = c .before .before .before .before .before .before in
     let a = s .args in
     let p = c .column-half in
-    half-within 𝔽₁ (a .depth) (a .j) (a .g .now) (a .t .now) (a .t2 .now) (a .w .now) (s .pre .1) (p .result .half) (p .result .off) (p .result .low) (p .ensures)
+    half-within (chosen (a .field)) (a .depth) (a .j) (a .g .now) (a .t .now) (a .t2 .now) (a .w .now) (s .pre .1) (p .result .half) (p .result .off) (p .result .low) (p .ensures)
 
 lift-slice-aggregate-lift : (t : ℕ) → lift-lts.Need-slice-aggregate-lift (rs t) (lift-at t) lift.Post
 lift-slice-aggregate-lift t c =
     let s = c .before .before .before .before .before .before .before in
     let a = s .args in
     let p = c .before .column-half in
-    simp length-take (omega (arith, half-within 𝔽₁ (a .depth) (a .j) (a .g .now) (a .t .now) (a .t2 .now) (a .w .now) (s .pre .1) (p .result .half) (p .result .off) (p .result .low) (p .ensures)))
+    simp length-take (omega (arith, half-within (chosen (a .field)) (a .depth) (a .j) (a .g .now) (a .t .now) (a .t2 .now) (a .w .now) (s .pre .1) (p .result .half) (p .result .off) (p .result .low) (p .ensures)))
 
 lift-lift-requires : (t : ℕ) → lift-lts.Need-lift-requires (rs t) (lift-at t) lift.Post
 lift-lift-requires t c κs =
     let s = c .before .before .before .before .before .before .before in
     let a = s .args in
     let p = c .before .column-half in
-    (omega (arith, p .ensures .low-is, s .pre .0), lift-left 𝔽₁ (a .depth) (a .j) (a .g .now) (a .t .now) (a .t2 .now) (a .w .now) (s .pre .1) (p .result .half) (p .result .off) (p .result .low) (p .ensures))
+    (omega (arith, p .ensures .low-is, s .pre .0), lift-left (chosen (a .field)) (a .depth) (a .j) (a .g .now) (a .t .now) (a .t2 .now) (a .w .now) (s .pre .1) (p .result .half) (p .result .off) (p .result .low) (p .ensures))
 
 lift-mul-lift : (t : ℕ) → lift-lts.Need-mul-lift (rs t) (lift-at t) lift.Post
 lift-mul-lift t c =
     let s = c .before .before .before .before .before .before .before .before .before .before in
     let a = s .args in
     let p = c .before .before .before .before .column-half in
-    omega (arith, half-within 𝔽₁ (a .depth) (a .j) (a .g .now) (a .t .now) (a .t2 .now) (a .w .now) (s .pre .1) (p .result .half) (p .result .off) (p .result .low) (p .ensures))
+    omega (arith, half-within (chosen (a .field)) (a .depth) (a .j) (a .g .now) (a .t .now) (a .t2 .now) (a .w .now) (s .pre .1) (p .result .half) (p .result .off) (p .result .low) (p .ensures))
 
 lift-sub-lift : (t : ℕ) → lift-lts.Need-sub-lift (rs t) (lift-at t) lift.Post
 lift-sub-lift t c =
     let s = c .before .before .before .before .before .before .before .before .before .before in
     let a = s .args in
     let p = c .before .before .before .before .column-half in
-    right-within 𝔽₁ (a .depth) (a .j) (a .g .now) (a .t .now) (a .t2 .now) (a .w .now) (s .pre .1) (p .result .half) (p .result .off) (p .result .low) (p .ensures) (c .before .before .lift .last .1 .1 .1 .1 .1 .0) (c .before .before .lift .kept .1 .1 .1 .1 .1 .0)
+    right-within (chosen (a .field)) (a .depth) (a .j) (a .g .now) (a .t .now) (a .t2 .now) (a .w .now) (s .pre .1) (p .result .half) (p .result .off) (p .result .low) (p .ensures) (c .before .before .lift .last .1 .1 .1 .1 .1 .0) (c .before .before .lift .kept .1 .1 .1 .1 .1 .0)
 
 lift-part-lift-start : (t : ℕ) → lift-lts.Need-part-lift-start (rs t) (lift-at t) lift.Post
 lift-part-lift-start t c =
     let s = c .before .before .before .before .before .before .before .before .before .before in
     let a = s .args in
     let p = c .before .before .before .before .column-half in
-    right-within 𝔽₁ (a .depth) (a .j) (a .g .now) (a .t .now) (a .t2 .now) (a .w .now) (s .pre .1) (p .result .half) (p .result .off) (p .result .low) (p .ensures) (c .before .before .lift .last .1 .1 .1 .1 .1 .0) (c .before .before .lift .kept .1 .1 .1 .1 .1 .0)
+    right-within (chosen (a .field)) (a .depth) (a .j) (a .g .now) (a .t .now) (a .t2 .now) (a .w .now) (s .pre .1) (p .result .half) (p .result .off) (p .result .low) (p .ensures) (c .before .before .lift .last .1 .1 .1 .1 .1 .0) (c .before .before .lift .kept .1 .1 .1 .1 .1 .0)
 
 lift-part-lift-end : (t : ℕ) → lift-lts.Need-part-lift-end (rs t) (lift-at t) lift.Post
 lift-part-lift-end t c = search needs
@@ -88,14 +88,14 @@ lift-lift-requires-2 t c κs =
     let s = c .before .before .before .before .before .before .before .before .before .before .before in
     let a = s .args in
     let p = c .before .before .before .before .before .column-half in
-    (omega (arith, p .ensures .low-is, s .pre .0), lift-right 𝔽₁ (a .depth) (a .j) (a .g .now) (a .t .now) (a .t2 .now) (a .w .now) (s .pre .1) (p .result .half) (p .result .off) (p .result .low) (p .ensures) (c .before .before .before .lift .last .1 .1 .1 .1 .1 .0) (c .before .before .before .lift .kept .1 .1 .1 .1 .1 .0))
+    (omega (arith, p .ensures .low-is, s .pre .0), lift-right (chosen (a .field)) (a .depth) (a .j) (a .g .now) (a .t .now) (a .t2 .now) (a .w .now) (s .pre .1) (p .result .half) (p .result .off) (p .result .low) (p .ensures) (c .before .before .before .lift .last .1 .1 .1 .1 .1 .0) (c .before .before .before .lift .kept .1 .1 .1 .1 .1 .0))
 
 lift-cross-requires : (t : ℕ) → lift-lts.Need-cross-requires (rs t) (lift-at t) lift.Post
 lift-cross-requires t c κs =
     let s = c .before .before .before .before .before .before .before .before .before .before .before .before .before .before .before in
     let a = s .args in
     let p = c .before .before .before .before .before .before .before .before .before .column-half in
-    crossing 𝔽₁ (a .depth) (a .j) (a .g .now) (a .t .now) (a .t2 .now) (a .w .now) (s .pre .1) (p .result .half) (p .result .off) (p .result .low) (p .ensures) (c .before .before .before .before .before .before .before .lift .last .1 .1 .1 .1 .1 .0) (c .before .before .before .before .before .before .before .lift .kept .1 .1 .1 .1 .1 .0) (c .before .before .before .lift2 .last .1 .1 .1 .1 .1 .0) (c .before .before .before .lift2 .kept .1 .1 .1 .1 .1 .0) (c .before .before .before .before .before .before .before .lift .ensures) (c .before .before .before .lift2 .ensures)
+    crossing (chosen (a .field)) (a .depth) (a .j) (a .g .now) (a .t .now) (a .t2 .now) (a .w .now) (s .pre .1) (p .result .half) (p .result .off) (p .result .low) (p .ensures) (c .before .before .before .before .before .before .before .lift .last .1 .1 .1 .1 .1 .0) (c .before .before .before .before .before .before .before .lift .kept .1 .1 .1 .1 .1 .0) (c .before .before .before .lift2 .last .1 .1 .1 .1 .1 .0) (c .before .before .before .lift2 .kept .1 .1 .1 .1 .1 .0) (c .before .before .before .before .before .before .before .lift .ensures) (c .before .before .before .lift2 .ensures)
 
 lift-same-length : (t : ℕ) → lift-lts.Need-same-length (rs t) (lift-at t) lift.Post
 lift-same-length t c = search needs
@@ -105,7 +105,7 @@ lift-returns-2 t c =
     let s = c .before .before .before .before .before .before .before .before .before .before .before .before .before .before .before .before .before .before in
     let a = s .args in
     let p = c .before .before .before .before .before .before .before .before .before .before .before .before .column-half in
-    level 𝔽₁ (a .depth) (a .j) (a .g .now) (a .t .now) (a .t2 .now) (a .w .now) (s .pre .1) (p .result .half) (p .result .off) (p .result .low) (p .ensures) (c .before .before .before .before .before .before .before .before .before .before .lift .last .1 .1 .1 .1 .1 .0) (c .before .before .before .before .before .before .before .before .before .before .lift .kept .1 .1 .1 .1 .1 .0) (c .before .before .before .before .before .before .lift2 .last .1 .1 .1 .1 .1 .0) (c .before .before .before .before .before .before .lift2 .kept .1 .1 .1 .1 .1 .0) _ (c .before .before .before .before .before .before .before .before .before .before .lift .ensures) (c .before .before .before .before .before .before .lift2 .ensures) (c .before .before .cross .ensures)
+    level (chosen (a .field)) (a .depth) (a .j) (a .g .now) (a .t .now) (a .t2 .now) (a .w .now) (s .pre .1) (p .result .half) (p .result .off) (p .result .low) (p .ensures) (c .before .before .before .before .before .before .before .before .before .before .lift .last .1 .1 .1 .1 .1 .0) (c .before .before .before .before .before .before .before .before .before .before .lift .kept .1 .1 .1 .1 .1 .0) (c .before .before .before .before .before .before .lift2 .last .1 .1 .1 .1 .1 .0) (c .before .before .before .before .before .before .lift2 .kept .1 .1 .1 .1 .1 .0) _ (c .before .before .before .before .before .before .before .before .before .before .lift .ensures) (c .before .before .before .before .before .before .lift2 .ensures) (c .before .before .cross .ensures)
 
 pub +lift-spec : {M : Type 1} → statement M
 +lift-spec = close μ-lift λ t. lift-lts.spec (rs t)

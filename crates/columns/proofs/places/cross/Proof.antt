@@ -3,22 +3,22 @@ use Prim.Native.Nat.{_+_, _*_, _-_, _≤_}
 use native.Mathlib.Nat.{zero-mul}
 use native.Mathlib.Omega.{arith}
 use lib.ListN.{length, length-set}
-use Rattle.algebra.specs.Words.{𝔽₁}
+use Rattle.residue.specs.Chosen.{chosen}
 use Rattle.columns.proofs.Loops.{next-place, places-in, places-low, CrossedUpTo, up-to-none, up-to-length, halves-low, up-to-turn, up-to-end}
 use Rattle.columns.proofs.places.cross.Statement.{statement}
 use Rattle.columns.proofs.places.cross.Tie as tie
 
 abbrev Inv-loop : tie.InvT-loop
-Inv-loop n a c t t2 w₀ i₀ p₀ w i p = (i ≤ n) × (length w ≡ length w₀) × (p ≡ a + i * c) × CrossedUpTo 𝔽₁ n a c t t2 w₀ i w
+Inv-loop n a c t t2 w₀ field i₀ p₀ w i p = (i ≤ n) × (length w ≡ length w₀) × (p ≡ a + i * c) × CrossedUpTo (chosen field) n a c t t2 w₀ i w
 
 abbrev μ-loop : tie.MeasureT-loop
-μ-loop n a c t t2 w₀ i₀ p₀ w i p = n - i
+μ-loop n a c t t2 w₀ field i₀ p₀ w i p = n - i
 
 loop-holds : tie.Need-loop-holds Inv-loop μ-loop
 loop-holds c =
     let s = c .before .before .before in
     let a = s .args in
-    (omega arith, refl, omega (arith, zero-mul (a .c)), up-to-none 𝔽₁ (a .n) (a .a) (a .c) (a .t .now) (a .t2 .now) (a .w .now) (s .pre))
+    (omega arith, refl, omega (arith, zero-mul (a .c)), up-to-none (chosen (a .field)) (a .n) (a .a) (a .c) (a .t .now) (a .t2 .now) (a .w .now) (s .pre))
 
 add-k : tie.Need-add-k Inv-loop μ-loop
 add-k c = omega arith
@@ -40,7 +40,7 @@ mul-plus-product c =
     let s = c .before .before .before .before .before .before .before in
     let a = s .args in
     let l = c .before .before .before .loop in
-    let u = places-in 𝔽₁ (a .n) (a .a) (a .c) (a .t .now) (a .t2 .now) (a .w .now) (s .pre) (l .i) (l .p) (omega arith) (l .inv .2) in
+    let u = places-in (chosen (a .field)) (a .n) (a .a) (a .c) (a .t .now) (a .t2 .now) (a .w .now) (s .pre) (l .i) (l .p) (omega arith) (l .inv .2) in
     omega arith
 
 shared-slice-read-plus-product : tie.Need-shared-slice-read-plus-product Inv-loop μ-loop
@@ -48,16 +48,17 @@ shared-slice-read-plus-product c =
     let s = c .before .before .before .before .before .before .before .before in
     let a = s .args in
     let l = c .before .before .before .before .loop in
-    let u = places-in 𝔽₁ (a .n) (a .a) (a .c) (a .t .now) (a .t2 .now) (a .w .now) (s .pre) (l .i) (l .p) (omega arith) (l .inv .2) in
+    let u = places-in (chosen (a .field)) (a .n) (a .a) (a .c) (a .t .now) (a .t2 .now) (a .w .now) (s .pre) (l .i) (l .p) (omega arith) (l .inv .2) in
     omega arith
 
 plus-product-requires : tie.Need-plus-product-requires Inv-loop μ-loop
 plus-product-requires c κs =
     let s = c .before .before .before .before .before .before .before .before in
     let a = s .args in
+    let 𝓕 = chosen (a .field) in
     let l = c .before .before .before .before .loop in
-    let u = places-low 𝔽₁ (a .n) (a .a) (a .c) (a .t .now) (a .t2 .now) (a .w .now) (s .pre) (l .i) (l .p) (omega arith) (l .inv .2) in
-    let b = halves-low 𝔽₁ (a .n) (a .a) (a .c) (a .t .now) (a .t2 .now) (a .w .now) (s .pre) (l .i) (l .w) (l .inv .3) (omega arith) in
+    let u = places-low 𝓕 (a .n) (a .a) (a .c) (a .t .now) (a .t2 .now) (a .w .now) (s .pre) (l .i) (l .p) (omega arith) (l .inv .2) in
+    let b = halves-low 𝓕 (a .n) (a .a) (a .c) (a .t .now) (a .t2 .now) (a .w .now) (s .pre) (l .i) (l .w) (l .inv .3) (omega arith) in
     (omega arith, omega arith, omega arith)
 
 mul-plus-product-2 : tie.Need-mul-plus-product-2 Inv-loop μ-loop
@@ -65,7 +66,7 @@ mul-plus-product-2 c =
     let s = c .before .before .before .before .before .before .before .before .before in
     let a = s .args in
     let l = c .before .before .before .before .before .loop in
-    let u = places-in 𝔽₁ (a .n) (a .a) (a .c) (a .t .now) (a .t2 .now) (a .w .now) (s .pre) (l .i) (l .p) (omega arith) (l .inv .2) in
+    let u = places-in (chosen (a .field)) (a .n) (a .a) (a .c) (a .t .now) (a .t2 .now) (a .w .now) (s .pre) (l .i) (l .p) (omega arith) (l .inv .2) in
     omega arith
 
 shared-slice-read-plus-product-2 : tie.Need-shared-slice-read-plus-product-2 Inv-loop μ-loop
@@ -73,16 +74,17 @@ shared-slice-read-plus-product-2 c =
     let s = c .before .before .before .before .before .before .before .before .before .before in
     let a = s .args in
     let l = c .before .before .before .before .before .before .loop in
-    let u = places-in 𝔽₁ (a .n) (a .a) (a .c) (a .t .now) (a .t2 .now) (a .w .now) (s .pre) (l .i) (l .p) (omega arith) (l .inv .2) in
+    let u = places-in (chosen (a .field)) (a .n) (a .a) (a .c) (a .t .now) (a .t2 .now) (a .w .now) (s .pre) (l .i) (l .p) (omega arith) (l .inv .2) in
     omega arith
 
 plus-product-requires-2 : tie.Need-plus-product-requires-2 Inv-loop μ-loop
 plus-product-requires-2 c κs =
     let s = c .before .before .before .before .before .before .before .before .before .before in
     let a = s .args in
+    let 𝓕 = chosen (a .field) in
     let l = c .before .before .before .before .before .before .loop in
-    let u = places-low 𝔽₁ (a .n) (a .a) (a .c) (a .t .now) (a .t2 .now) (a .w .now) (s .pre) (l .i) (l .p) (omega arith) (l .inv .2) in
-    let b = halves-low 𝔽₁ (a .n) (a .a) (a .c) (a .t .now) (a .t2 .now) (a .w .now) (s .pre) (l .i) (l .w) (l .inv .3) (omega arith) in
+    let u = places-low 𝓕 (a .n) (a .a) (a .c) (a .t .now) (a .t2 .now) (a .w .now) (s .pre) (l .i) (l .p) (omega arith) (l .inv .2) in
+    let b = halves-low 𝓕 (a .n) (a .a) (a .c) (a .t .now) (a .t2 .now) (a .w .now) (s .pre) (l .i) (l .w) (l .inv .3) (omega arith) in
     (omega arith, omega arith, omega arith)
 
 mul-w : tie.Need-mul-w Inv-loop μ-loop
@@ -102,7 +104,7 @@ add-p c =
     let s = c .before .before .before .before .before .before .before .before .before .before .before in
     let a = s .args in
     let l = c .before .before .before .before .before .before .before .loop in
-    let u = places-in 𝔽₁ (a .n) (a .a) (a .c) (a .t .now) (a .t2 .now) (a .w .now) (s .pre) (l .i) (l .p) (omega arith) (l .inv .2) in
+    let u = places-in (chosen (a .field)) (a .n) (a .a) (a .c) (a .t .now) (a .t2 .now) (a .w .now) (s .pre) (l .i) (l .p) (omega arith) (l .inv .2) in
     let w = s .pre .wide in
     omega arith
 
@@ -116,9 +118,10 @@ loop-again : tie.Need-loop-again Inv-loop μ-loop
 loop-again c =
     let s = c .before .before .before .before .before .before .before .before .before .before .before in
     let a = s .args in
+    let 𝓕 = chosen (a .field) in
     let l = c .before .before .before .before .before .before .before .loop in
-    let q = up-to-turn 𝔽₁ (a .n) (a .a) (a .c) (a .t .now) (a .t2 .now) (a .w .now) (s .pre) (l .i) (l .w) (l .inv .3) (l .p) _ _ (omega arith) (l .inv .2) (c .before .before .plus-product .ensures) (c .plus-product2 .ensures) in
-    (omega arith, up-to-length 𝔽₁ (a .n) (a .a) (a .c) (a .t .now) (a .t2 .now) (a .w .now) (s .pre) _ _ q, next-place (a .a) (l .i) (a .c) (l .p) (l .inv .2), q)
+    let q = up-to-turn 𝓕 (a .n) (a .a) (a .c) (a .t .now) (a .t2 .now) (a .w .now) (s .pre) (l .i) (l .w) (l .inv .3) (l .p) _ _ (omega arith) (l .inv .2) (c .before .before .plus-product .ensures) (c .plus-product2 .ensures) in
+    (omega arith, up-to-length 𝓕 (a .n) (a .a) (a .c) (a .t .now) (a .t2 .now) (a .w .now) (s .pre) _ _ q, next-place (a .a) (l .i) (a .c) (l .p) (l .inv .2), q)
 
 same-length : tie.Need-same-length Inv-loop μ-loop
 same-length c = omega arith
@@ -128,7 +131,7 @@ returns c =
     let s = c .before .before .before .before .before in
     let a = s .args in
     let l = c .before .loop in
-    up-to-end 𝔽₁ (a .n) (a .a) (a .c) (a .t .now) (a .t2 .now) (a .w .now) (s .pre) (l .i) (l .w) (l .inv .3) (omega arith)
+    up-to-end (chosen (a .field)) (a .n) (a .a) (a .c) (a .t .now) (a .t2 .now) (a .w .now) (s .pre) (l .i) (l .w) (l .inv .3) (omega arith)
 
 pub cross-spec : {M : Type 1} → statement M
 cross-spec =

@@ -3,19 +3,19 @@ use Prim.Native.Nat.{_+_, _-_, _≤_}
 use native.Mathlib.Omega.{arith}
 use lib.ListN.{length}
 use lib.Seq.{paste}
-use Rattle.algebra.specs.Words.{𝔽₁}
+use Rattle.residue.specs.Chosen.{chosen}
 use Rattle.columns.proofs.Loops.{multiple, scale-none, scale-length, read-low, scale-turn, scale-end}
 use Rattle.columns.proofs.places.scale_front.Statement.{statement}
 use Rattle.columns.proofs.places.scale_front.Tie as tie
 
 abbrev Inv-loop : tie.InvT-loop
-Inv-loop n a w₀ i₀ w i = (i ≤ n) × (length w ≡ length w₀) × (w ≡ paste w₀ n (multiple 𝔽₁ n a w₀) i)
+Inv-loop n a w₀ field i₀ w i = (i ≤ n) × (length w ≡ length w₀) × (w ≡ paste w₀ n (multiple (chosen field) n a w₀) i)
 
 abbrev μ-loop : tie.MeasureT-loop
-μ-loop n a w₀ i₀ w i = n - i
+μ-loop n a w₀ field i₀ w i = n - i
 
 loop-holds : tie.Need-loop-holds Inv-loop μ-loop
-loop-holds c = let s = c .before in let a = s .args in (omega arith, refl, scale-none 𝔽₁ (a .n) (a .a) (a .w .now) (s .pre))
+loop-holds c = let s = c .before in let a = s .args in (omega arith, refl, scale-none (chosen (a .field)) (a .n) (a .a) (a .w .now) (s .pre))
 
 add-k : tie.Need-add-k Inv-loop μ-loop
 add-k c = let s = c .before .before .before in omega (arith, s .pre .room)
@@ -31,7 +31,7 @@ scaled-requires c κs =
     let s = c .before .before .before .before in
     let a = s .args in
     let l = c .before .before .loop in
-    (s .pre .unit, read-low 𝔽₁ (a .n) (a .a) (a .w .now) (s .pre) (l .i) (l .w) (l .inv .2) (omega arith))
+    (s .pre .unit, read-low (chosen (a .field)) (a .n) (a .a) (a .w .now) (s .pre) (l .i) (l .w) (l .inv .2) (omega arith))
 
 mul-w : tie.Need-mul-w Inv-loop μ-loop
 mul-w c = let s = c .before .before .before .before .before in omega (arith, s .pre .room)
@@ -49,9 +49,10 @@ loop-again : tie.Need-loop-again Inv-loop μ-loop
 loop-again c =
     let s = c .before .before .before .before .before in
     let a = s .args in
+    let 𝓕 = chosen (a .field) in
     let l = c .before .before .before .loop in
-    let p = scale-turn 𝔽₁ (a .n) (a .a) (a .w .now) (s .pre) (l .i) (l .w) (l .inv .2) (omega arith) _ (c .scaled .ensures) in
-    (omega arith, scale-length 𝔽₁ (a .n) (a .a) (a .w .now) (s .pre) (l .i + 1) _ p (omega arith), p)
+    let p = scale-turn 𝓕 (a .n) (a .a) (a .w .now) (s .pre) (l .i) (l .w) (l .inv .2) (omega arith) _ (c .scaled .ensures) in
+    (omega arith, scale-length 𝓕 (a .n) (a .a) (a .w .now) (s .pre) (l .i + 1) _ p (omega arith), p)
 
 same-length : tie.Need-same-length Inv-loop μ-loop
 same-length c = omega arith
@@ -61,7 +62,7 @@ returns c =
     let s = c .before .before .before in
     let a = s .args in
     let l = c .before .loop in
-    scale-end 𝔽₁ (a .n) (a .a) (a .w .now) (s .pre) (l .i) (l .w) (l .inv .2) (l .inv .0) (omega arith)
+    scale-end (chosen (a .field)) (a .n) (a .a) (a .w .now) (s .pre) (l .i) (l .w) (l .inv .2) (l .inv .0) (omega arith)
 
 pub scale-front-spec : {M : Type 1} → statement M
 scale-front-spec =

@@ -1,5 +1,5 @@
-use Rattle.algebra.specs.Words.{𝔽₁}
 use Rattle.algebra.specs.Tests.{allSame}
+use Rattle.residue.specs.Chosen.{chosen}
 use Rattle.decode.proofs.Deciding.{by-halves}
 use Rattle.parameters.specs.Lent.{codeword}
 use native.Mathlib.Omega.{arith}
@@ -18,7 +18,7 @@ returns : tie.Need-returns
 returns c = search needs
 
 same-codeword-requires : tie.Need-same-codeword-requires
-same-codeword-requires c κs = let s = c .before .before .before .before .before .before .before in let a = s .args in by-halves 𝔽₁ (a .depth) (a .g .now) (a .t .now) (a .t2 .now) (a .block .now) _ (s .pre .lent) (a .work .now) refl (omega arith) (s .pre .message)
+same-codeword-requires c κs = let s = c .before .before .before .before .before .before .before in let a = s .args in by-halves (chosen (a .field)) (a .depth) (a .g .now) (a .t .now) (a .t2 .now) (a .block .now) _ (s .pre .lent) (a .work .now) refl (omega arith) (s .pre .message)
 
 same-length-2 : tie.Need-same-length-2
 same-length-2 c = search needs
@@ -28,7 +28,7 @@ returns-2 c =
     let s = c .before .before .before .before .before .before .before .before .before .before in
     let a = s .args in
     let same = c .before .before .same-codeword .ensures in
-    record { answer = same .answer ∙ ap (λ m. allSame (codeword 𝔽₁ (a .depth) (a .g .now) (a .t .now) (a .t2 .now) m) (a .block .now)) (s .pre .message); message = same .message ∙ s .pre .message }
+    record { answer = same .answer ∙ ap (λ m. allSame (codeword (chosen (a .field)) (a .depth) (a .g .now) (a .t .now) (a .t2 .now) m) (a .block .now)) (s .pre .message); message = same .message ∙ s .pre .message }
 
 pub is-its-codeword-spec : {M : Type 1} → statement M
 is-its-codeword-spec =

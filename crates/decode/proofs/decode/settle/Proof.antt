@@ -1,4 +1,4 @@
-use Rattle.algebra.specs.Words.{𝔽₁}
+use Rattle.residue.specs.Chosen.{chosen}
 use Rattle.decode.proofs.Deciding.{found, not-found, front-within}
 use Rattle.algebra.specs.Flags.{passes, fails}
 use lib.ListN.{take, replicate}
@@ -23,14 +23,14 @@ returns c =
     let a = s .args in
     let tried = c .before .before .before .before .before .before .before .is-codeword in
     let left = c .before .before .cleared .ensures in
-    (rw (left .0) (not-found 𝔽₁ (a .depth) (a .g .now) (a .t .now) (a .t2 .now) (a .block .now) _ (s .pre .0) (a .out .now) (fails (tried .ensures .answer) (c .before .before .before .before .if1 .taken))), left .1 ∙ ap (λ n. replicate n 0) (tried .kept .1 .1 .1 .1 .1 .0))
+    (rw (left .0) (not-found (chosen (a .field)) (a .depth) (a .g .now) (a .t .now) (a .t2 .now) (a .block .now) _ (s .pre .0) (a .out .now) (fails (tried .ensures .answer) (c .before .before .before .before .if1 .taken))), left .1 ∙ ap (λ n. replicate n 0) (tried .kept .1 .1 .1 .1 .1 .0))
 
 give-requires : tie.Need-give-requires
 give-requires c κs =
     let s = c .before .before .before .before .before .before .before .before .before .before .before .before .before in
     let a = s .args in
     let tried = c .before .before .before .before .before .is-codeword in
-    omega (arith, front-within 𝔽₁ (a .depth) (a .g .now) (a .t .now) (a .t2 .now) (a .block .now) _ (s .pre .0) (tried .last .1 .1 .1 .1 .1 .0) (tried .kept .1 .1 .1 .1 .1 .0), s .pre .1)
+    omega (arith, front-within (chosen (a .field)) (a .depth) (a .g .now) (a .t .now) (a .t2 .now) (a .block .now) _ (s .pre .0) (tried .last .1 .1 .1 .1 .1 .0) (tried .kept .1 .1 .1 .1 .1 .0), s .pre .1)
 
 cleared-requires-2 : tie.Need-cleared-requires-2
 cleared-requires-2 c κs = search needs
@@ -49,7 +49,7 @@ returns-2 c =
     let given = c .before .before .before .before .before .before .give in
     let left = c .before .before .cleared2 .ensures in
     let out = given .ensures ∙ ap (λ n. take n (tried .last .1 .1 .1 .1 .1 .0)) (s .pre .1) ∙ tried .ensures .message in (
-      rw (left .0) (found 𝔽₁ (a .depth) (a .g .now) (a .t .now) (a .t2 .now) (a .block .now) _ (s .pre .0) (a .out .now) _ (passes (tried .ensures .answer) (c .before .before .before .before .before .before .before .before .before .if1 .left)) out),
+      rw (left .0) (found (chosen (a .field)) (a .depth) (a .g .now) (a .t .now) (a .t2 .now) (a .block .now) _ (s .pre .0) (a .out .now) _ (passes (tried .ensures .answer) (c .before .before .before .before .before .before .before .before .before .if1 .left)) out),
       left .1 ∙ ap (λ n. replicate n 0) (tried .kept .1 .1 .1 .1 .1 .0),
     )
 

@@ -2,23 +2,23 @@ use Prim.Native.Nat.{_-_}
 use lib.ListN.{length}
 use native.Mathlib.Omega.{arith}
 use borrow.Author.Needs.{needs}
-use Rattle.algebra.specs.Words.{𝔽₁}
-use Rattle.residue.specs.Residues.{elem}
+use Rattle.residue.specs.Elements.{elem}
+use Rattle.residue.specs.Chosen.{chosen}
 use Rattle.fold.proofs.Drawing.{DrawnTo, draw-none, draw-turn, draw-end, low-left, low-right, low-behind}
 use Rattle.fold.proofs.behind.draw_behind.Statement.{statement}
 use Rattle.fold.proofs.behind.draw_behind.Tie as tie
 
 abbrev Inv-loop : tie.InvT-loop
-Inv-loop t challenge w₀ n m j₀ w j = DrawnTo 𝔽₁ j (elem challenge) t w₀ w
+Inv-loop t challenge w₀ field n m j₀ w j = DrawnTo (chosen field) j (elem (chosen field) challenge) t w₀ w
 
 abbrev μ-loop : tie.MeasureT-loop
-μ-loop t challenge w₀ n m j₀ w j = length t - j
+μ-loop t challenge w₀ field n m j₀ w j = length t - j
 
 add-m : tie.Need-add-m Inv-loop μ-loop
 add-m c = search needs
 
 loop-holds : tie.Need-loop-holds Inv-loop μ-loop
-loop-holds c = let s = c .before .before in let a = s .args in draw-none 𝔽₁ (elem (a .challenge)) (a .t .now) (a .w .now) (s .pre .1)
+loop-holds c = let s = c .before .before in let a = s .args in let 𝓕 = chosen (a .field) in draw-none 𝓕 (elem 𝓕 (a .challenge)) (a .t .now) (a .w .now) (s .pre .1)
 
 add-k : tie.Need-add-k Inv-loop μ-loop
 add-k c = search needs
@@ -54,9 +54,10 @@ line-word-requires : tie.Need-line-word-requires Inv-loop μ-loop
 line-word-requires c κs =
     let s = c .before .before .before .before .before .before .before .before in
     let a = s .args in
+    let 𝓕 = chosen (a .field) in
     let l = c .before .before .before .before .before .loop in
-    let e = elem (a .challenge) in
-    (s .pre .0, s .pre .1 .low .low (l .j) (omega arith), low-behind 𝔽₁ e (a .t .now) (a .w .now) (s .pre .1) (l .j) (l .w) (omega arith) (l .inv), low-left 𝔽₁ e (a .t .now) (a .w .now) (s .pre .1) (l .j) (l .w) (omega arith) (l .inv), low-right 𝔽₁ e (a .t .now) (a .w .now) (s .pre .1) (l .j) (l .w) (omega arith) (l .inv))
+    let e = elem 𝓕 (a .challenge) in
+    (s .pre .0, s .pre .1 .low .low (l .j) (omega arith), low-behind 𝓕 e (a .t .now) (a .w .now) (s .pre .1) (l .j) (l .w) (omega arith) (l .inv), low-left 𝓕 e (a .t .now) (a .w .now) (s .pre .1) (l .j) (l .w) (omega arith) (l .inv), low-right 𝓕 e (a .t .now) (a .w .now) (s .pre .1) (l .j) (l .w) (omega arith) (l .inv))
 
 mul-w : tie.Need-mul-w Inv-loop μ-loop
 mul-w c = search needs
@@ -74,8 +75,9 @@ loop-again : tie.Need-loop-again Inv-loop μ-loop
 loop-again c =
     let s = c .before .before .before .before .before .before .before .before .before in
     let a = s .args in
+    let 𝓕 = chosen (a .field) in
     let l = c .before .before .before .before .before .before .loop in
-    draw-turn 𝔽₁ (elem (a .challenge)) (a .t .now) (a .w .now) (s .pre .1) (l .j) (l .w) (omega arith) (l .inv) _ (c .line-word .ensures)
+    draw-turn 𝓕 (elem 𝓕 (a .challenge)) (a .t .now) (a .w .now) (s .pre .1) (l .j) (l .w) (omega arith) (l .inv) _ (c .line-word .ensures)
 
 same-length : tie.Need-same-length Inv-loop μ-loop
 same-length c = search needs
@@ -84,8 +86,9 @@ returns : tie.Need-returns Inv-loop μ-loop
 returns c =
     let s = c .before .before .before .before in
     let a = s .args in
+    let 𝓕 = chosen (a .field) in
     let l = c .before .loop in
-    draw-end 𝔽₁ (elem (a .challenge)) (a .t .now) (a .w .now) (s .pre .1) (l .j) (l .w) (omega arith) (l .inv)
+    draw-end 𝓕 (elem 𝓕 (a .challenge)) (a .t .now) (a .w .now) (s .pre .1) (l .j) (l .w) (omega arith) (l .inv)
 
 pub draw-behind-spec : {M : Type 1} → statement M
 draw-behind-spec =

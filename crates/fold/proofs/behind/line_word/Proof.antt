@@ -1,6 +1,6 @@
 use mathlib.Core.Path.{_∙_}
-use Rattle.algebra.specs.Words.{𝔽₁}
-use Rattle.residue.specs.Residues.{el, elem, word}
+use Rattle.residue.specs.Elements.{el, elem, word}
+use Rattle.residue.specs.Chosen.{chosen}
 use Rattle.fold.specs.Steps.{lineBy}
 use borrow.Author.Needs.{needs}
 use Rattle.fold.proofs.behind.line_word.Statement.{statement}
@@ -26,9 +26,10 @@ word-requires c κs = search needs
 
 returns : tie.Need-returns
 returns c =
+    let 𝓕 = chosen (c .before .before .before .before .before .before .args .field) in
     let a = c .before .before .before .before .before .before .args .a in
     c .word .ensures ∙ c .before .line .ensures
-    ∙ (λ k. word (lineBy 𝔽₁ (elem a) (el (c .before .before .before .before .before .new .ensures k)) (el (c .before .before .before .before .new2 .ensures k)) (el (c .before .before .before .new3 .ensures k)) (el (c .before .before .new4 .ensures k))))
+    ∙ (λ k. word 𝓕 (lineBy 𝓕 (elem 𝓕 a) (el 𝓕 (c .before .before .before .before .before .new .ensures k)) (el 𝓕 (c .before .before .before .before .new2 .ensures k)) (el 𝓕 (c .before .before .before .new3 .ensures k)) (el 𝓕 (c .before .before .new4 .ensures k))))
 
 pub line-word-spec : {M : Type 1} → statement M
 line-word-spec =

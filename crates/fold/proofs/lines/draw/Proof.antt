@@ -1,11 +1,11 @@
 use Rattle.fold.specs.Steps.{lineBy, linesBy}
-use Rattle.residue.specs.Residues.{el, elem, word}
+use Rattle.residue.specs.Elements.{el, elem, word}
+use Rattle.residue.specs.Chosen.{chosen}
 use Prim.Native.Nat.{_-_, _+_, _≤_}
 use lib.ListN.{length, getD}
 use mathlib.Core.Path.{_≡_, ap, sym, _∙_}
 use Rattle.inversion.specs.InversionLaws.{length-rows, getD-rows}
 use Rattle.algebra.specs.WordLists.{toWords}
-use Rattle.algebra.specs.Words.{𝔽₁}
 use Rattle.algebra.specs.Filling.{Filled, filled-none, filled-turn, filled-end, filled-length, filled-old}
 use Rattle.algebra.specs.Lists.{row}
 use borrow.Author.Needs.{needs}
@@ -14,10 +14,10 @@ use Rattle.fold.proofs.lines.draw.Statement.{statement}
 use Rattle.fold.proofs.lines.draw.Tie as tie
 
 abbrev Inv-loop : tie.InvT-loop
-Inv-loop t block challenge out₀ j₀ out j = (j ≤ length out₀) × (length out ≡ length out₀) × Filled j (toWords 𝔽₁ (row (length out₀) (linesBy 𝔽₁ (length out₀) (elem challenge) t block out₀))) out₀ out
+Inv-loop t block challenge out₀ field j₀ out j = (j ≤ length out₀) × (length out ≡ length out₀) × Filled j (toWords (chosen field) (row (length out₀) (linesBy (chosen field) (length out₀) (elem (chosen field) challenge) t block out₀))) out₀ out
 
 abbrev μ-loop : tie.MeasureT-loop
-μ-loop t block challenge out₀ j₀ out j = length out₀ - j
+μ-loop t block challenge out₀ field j₀ out j = length out₀ - j
 
 loop-holds : tie.Need-loop-holds Inv-loop μ-loop
 loop-holds c = (omega arith, omega arith, filled-none _ _)
@@ -57,22 +57,23 @@ loop-less c = search needs
 loop-again : tie.Need-loop-again Inv-loop μ-loop
 loop-again c =
     let a = c .before .before .before .before .before .before .before .before .args in
+    let 𝓕 = chosen (a .field) in
     let l = c .before .before .before .before .loop in
     let n = length (a .out .now) in
-    let f = linesBy 𝔽₁ n (elem (a .challenge)) (a .t .now) (a .block .now) (a .out .now) in
+    let f = linesBy 𝓕 n (elem 𝓕 (a .challenge)) (a .t .now) (a .block .now) (a .out .now) in
     let old = filled-old (l .inv .2) (l .j) 0 (omega arith) in
     let v =
     c .word .ensures ∙ c .before .line-at .ensures
-    ∙ (λ k. word (lineBy 𝔽₁ (elem (a .challenge)) (el (getD (a .t .now) (l .j) 0)) (el (old k)) (el (getD (a .block .now) (l .j) 0)) (el (getD (a .block .now) (l .inv .1 k + l .j) 0))))
-    ∙ sym (getD-rows 𝔽₁ n f (l .j) (omega arith)) in
-    let p = filled-turn 0 (omega arith) (length-rows 𝔽₁ n f) (l .inv .2) v in
+    ∙ (λ k. word 𝓕 (lineBy 𝓕 (elem 𝓕 (a .challenge)) (el 𝓕 (getD (a .t .now) (l .j) 0)) (el 𝓕 (old k)) (el 𝓕 (getD (a .block .now) (l .j) 0)) (el 𝓕 (getD (a .block .now) (l .inv .1 k + l .j) 0))))
+    ∙ sym (getD-rows 𝓕 n f (l .j) (omega arith)) in
+    let p = filled-turn 0 (omega arith) (length-rows 𝓕 n f) (l .inv .2) v in
     (omega arith, filled-length p, p)
 
 same-length : tie.Need-same-length Inv-loop μ-loop
 same-length c = search needs
 
 returns : tie.Need-returns Inv-loop μ-loop
-returns c = let l = c .before .loop in filled-end (omega arith) (length-rows 𝔽₁ _ _) (l .inv .2)
+returns c = let l = c .before .loop in filled-end (omega arith) (length-rows (chosen (c .before .before .before .before .before .args .field)) _ _) (l .inv .2)
 
 pub draw-spec : {M : Type 1} → statement M
 draw-spec =

@@ -2,8 +2,8 @@ use mathlib.Core.Path.{_∙_}
 use Prim.Native.Nat.{_+_}
 use native.Mathlib.Omega.{arith}
 use lib.ListN.{length}
-use Rattle.algebra.specs.Words.{𝔽₁}
-use Rattle.residue.specs.Residues.{el, elem, word}
+use Rattle.residue.specs.Elements.{el, elem, word}
+use Rattle.residue.specs.Chosen.{chosen}
 use Rattle.fold.specs.Steps.{lineBy}
 use borrow.Author.Needs.{needs}
 use Rattle.fold.proofs.lines.line_at.Statement.{statement}
@@ -62,9 +62,10 @@ line-requires c κs =
 
 returns : tie.Need-returns
 returns c =
+    let 𝓕 = chosen (c .before .before .before .before .before .before .before .before .before .before .before .before .args .field) in
     let a = c .before .before .before .before .before .before .before .before .before .before .before .before .args .a in
     c .line .ensures
-    ∙ (λ k. word (lineBy 𝔽₁ (elem a) (el (c .before .before .before .new3 .ensures k)) (el (c .before .new4 .ensures k)) (el (c .before .before .before .before .before .before .before .new .ensures k)) (el (c .before .before .before .before .before .new2 .ensures k))))
+    ∙ (λ k. word 𝓕 (lineBy 𝓕 (elem 𝓕 a) (el 𝓕 (c .before .before .before .new3 .ensures k)) (el 𝓕 (c .before .new4 .ensures k)) (el 𝓕 (c .before .before .before .before .before .before .before .new .ensures k)) (el 𝓕 (c .before .before .before .before .before .new2 .ensures k))))
 
 pub line-at-spec : {M : Type 1} → statement M
 line-at-spec =

@@ -1,6 +1,6 @@
 use mathlib.Core.Path.{refl}
 use native.Mathlib.Omega.{arith}
-use Rattle.algebra.specs.Words.{𝔽₁}
+use Rattle.residue.specs.Chosen.{chosen}
 use Rattle.halves.proofs.Stepping.{room, step-lent, step-first, step-second, front-peel, stepped}
 use borrow.Author.Needs.{needs}
 use Rattle.halves.proofs.same.step.Statement.{statement}
@@ -10,19 +10,19 @@ level-place-requires : tie.Need-level-place-requires
 level-place-requires c κs = search needs
 
 add-b : tie.Need-add-b
-add-b c = let s = c .before .before .before .before .before .before in let a = s .args in let p = c .before .level-place in omega (arith, room 𝔽₁ (a .low) (a .m) (a .g .now) (a .t .now) (a .t2 .now) (a .work .now) (s .pre) (p .result .size) (p .result .off) (p .result .end) (p .ensures))
+add-b c = let s = c .before .before .before .before .before .before in let a = s .args in let p = c .before .level-place in omega (arith, room (chosen (a .field)) (a .low) (a .m) (a .g .now) (a .t .now) (a .t2 .now) (a .work .now) (s .pre) (p .result .size) (p .result .off) (p .result .end) (p .ensures))
 
 add-b-2 : tie.Need-add-b-2
-add-b-2 c = let s = c .before .before .before .before .before .before .before in let a = s .args in let p = c .before .before .level-place in omega (arith, room 𝔽₁ (a .low) (a .m) (a .g .now) (a .t .now) (a .t2 .now) (a .work .now) (s .pre) (p .result .size) (p .result .off) (p .result .end) (p .ensures))
+add-b-2 c = let s = c .before .before .before .before .before .before .before in let a = s .args in let p = c .before .before .level-place in omega (arith, room (chosen (a .field)) (a .low) (a .m) (a .g .now) (a .t .now) (a .t2 .now) (a .work .now) (s .pre) (p .result .size) (p .result .off) (p .result .end) (p .ensures))
 
 add-e : tie.Need-add-e
-add-e c = let s = c .before .before .before .before .before .before .before .before in let a = s .args in let p = c .before .before .before .level-place in omega (arith, room 𝔽₁ (a .low) (a .m) (a .g .now) (a .t .now) (a .t2 .now) (a .work .now) (s .pre) (p .result .size) (p .result .off) (p .result .end) (p .ensures))
+add-e c = let s = c .before .before .before .before .before .before .before .before in let a = s .args in let p = c .before .before .before .level-place in omega (arith, room (chosen (a .field)) (a .low) (a .m) (a .g .now) (a .t .now) (a .t2 .now) (a .work .now) (s .pre) (p .result .size) (p .result .off) (p .result .end) (p .ensures))
 
 write-right-requires : tie.Need-write-right-requires
-write-right-requires c κs = let s = c .before .before .before .before .before .before .before .before .before in let a = s .args in let p = c .before .before .before .before .level-place in step-lent 𝔽₁ (a .low) (a .m) (a .g .now) (a .t .now) (a .t2 .now) (a .work .now) (s .pre) (p .result .size) (p .result .off) (p .result .end) (p .ensures)
+write-right-requires c κs = let s = c .before .before .before .before .before .before .before .before .before in let a = s .args in let p = c .before .before .before .before .level-place in step-lent (chosen (a .field)) (a .low) (a .m) (a .g .now) (a .t .now) (a .t2 .now) (a .work .now) (s .pre) (p .result .size) (p .result .off) (p .result .end) (p .ensures)
 
 mul-peel-front : tie.Need-mul-peel-front
-mul-peel-front c = let s = c .before .before .before .before .before .before .before .before .before .before .before .before in let a = s .args in let p = c .before .before .before .before .before .before .before .level-place in omega (arith, step-first 𝔽₁ (a .low) (a .m) (a .g .now) (a .t .now) (a .t2 .now) (a .work .now) (s .pre) (p .result .size) (p .result .off) (p .result .end) (p .ensures), p .ensures .end-is, s .good .1 .1 .1 .0 .1)
+mul-peel-front c = let s = c .before .before .before .before .before .before .before .before .before .before .before .before in let a = s .args in let p = c .before .before .before .before .before .before .before .level-place in omega (arith, step-first (chosen (a .field)) (a .low) (a .m) (a .g .now) (a .t .now) (a .t2 .now) (a .work .now) (s .pre) (p .result .size) (p .result .off) (p .result .end) (p .ensures), p .ensures .end-is, s .good .1 .1 .1 .0 .1)
 
 sub-peel-front : tie.Need-sub-peel-front
 sub-peel-front c = search needs
@@ -31,10 +31,10 @@ part-peel-front-start : tie.Need-part-peel-front-start
 part-peel-front-start c = search needs
 
 part-peel-front-end : tie.Need-part-peel-front-end
-part-peel-front-end c = let s = c .before .before .before .before .before .before .before .before .before .before .before .before in let a = s .args in let p = c .before .before .before .before .before .before .before .level-place in step-first 𝔽₁ (a .low) (a .m) (a .g .now) (a .t .now) (a .t2 .now) (a .work .now) (s .pre) (p .result .size) (p .result .off) (p .result .end) (p .ensures)
+part-peel-front-end c = let s = c .before .before .before .before .before .before .before .before .before .before .before .before in let a = s .args in let p = c .before .before .before .before .before .before .before .level-place in step-first (chosen (a .field)) (a .low) (a .m) (a .g .now) (a .t .now) (a .t2 .now) (a .work .now) (s .pre) (p .result .size) (p .result .off) (p .result .end) (p .ensures)
 
 mul-peel-front-2 : tie.Need-mul-peel-front-2
-mul-peel-front-2 c = let s = c .before .before .before .before .before .before .before .before .before .before .before .before .before in let a = s .args in let p = c .before .before .before .before .before .before .before .before .level-place in omega (arith, step-second 𝔽₁ (a .low) (a .m) (a .g .now) (a .t .now) (a .t2 .now) (a .work .now) (s .pre) (p .result .size) (p .result .off) (p .result .end) (p .ensures), p .ensures .end-is, s .good .1 .1 .1 .1 .0 .1)
+mul-peel-front-2 c = let s = c .before .before .before .before .before .before .before .before .before .before .before .before .before in let a = s .args in let p = c .before .before .before .before .before .before .before .before .level-place in omega (arith, step-second (chosen (a .field)) (a .low) (a .m) (a .g .now) (a .t .now) (a .t2 .now) (a .work .now) (s .pre) (p .result .size) (p .result .off) (p .result .end) (p .ensures), p .ensures .end-is, s .good .1 .1 .1 .1 .0 .1)
 
 sub-peel-front-2 : tie.Need-sub-peel-front-2
 sub-peel-front-2 c = search needs
@@ -43,7 +43,7 @@ part-peel-front-start-2 : tie.Need-part-peel-front-start-2
 part-peel-front-start-2 c = search needs
 
 part-peel-front-end-2 : tie.Need-part-peel-front-end-2
-part-peel-front-end-2 c = let s = c .before .before .before .before .before .before .before .before .before .before .before .before .before in let a = s .args in let p = c .before .before .before .before .before .before .before .before .level-place in step-second 𝔽₁ (a .low) (a .m) (a .g .now) (a .t .now) (a .t2 .now) (a .work .now) (s .pre) (p .result .size) (p .result .off) (p .result .end) (p .ensures)
+part-peel-front-end-2 c = let s = c .before .before .before .before .before .before .before .before .before .before .before .before .before in let a = s .args in let p = c .before .before .before .before .before .before .before .before .level-place in step-second (chosen (a .field)) (a .low) (a .m) (a .g .now) (a .t .now) (a .t2 .now) (a .work .now) (s .pre) (p .result .size) (p .result .off) (p .result .end) (p .ensures)
 
 mul-peel-front-3 : tie.Need-mul-peel-front-3
 mul-peel-front-3 c = search needs
@@ -55,16 +55,16 @@ part-peel-front-start-3 : tie.Need-part-peel-front-start-3
 part-peel-front-start-3 c = search needs
 
 part-peel-front-end-3 : tie.Need-part-peel-front-end-3
-part-peel-front-end-3 c = let s = c .before .before .before .before .before .before .before .before .before .before .before .before .before .before in let a = s .args in let p = c .before .before .before .before .before .before .before .before .before .level-place in let q = c .before .before .before .before .write-right in omega (arith, room 𝔽₁ (a .low) (a .m) (a .g .now) (a .t .now) (a .t2 .now) (a .work .now) (s .pre) (p .result .size) (p .result .off) (p .result .end) (p .ensures), q .kept .1 .1 .1 .1 .1 .0)
+part-peel-front-end-3 c = let s = c .before .before .before .before .before .before .before .before .before .before .before .before .before .before in let a = s .args in let p = c .before .before .before .before .before .before .before .before .before .level-place in let q = c .before .before .before .before .write-right in omega (arith, room (chosen (a .field)) (a .low) (a .m) (a .g .now) (a .t .now) (a .t2 .now) (a .work .now) (s .pre) (p .result .size) (p .result .off) (p .result .end) (p .ensures), q .kept .1 .1 .1 .1 .1 .0)
 
 peel-front-requires : tie.Need-peel-front-requires
-peel-front-requires c κs = let s = c .before .before .before .before .before .before .before .before .before .before .before .before .before .before .before in let a = s .args in let p = c .before .before .before .before .before .before .before .before .before .before .level-place in let q = c .before .before .before .before .before .write-right in front-peel 𝔽₁ (a .low) (a .m) (a .g .now) (a .t .now) (a .t2 .now) (a .work .now) (s .pre) (p .result .size) (p .result .off) (p .result .end) (p .ensures) _ (q .last .1 .1 .1 .1 .1 .0) refl (q .kept .1 .1 .1 .1 .1 .0) (q .ensures)
+peel-front-requires c κs = let s = c .before .before .before .before .before .before .before .before .before .before .before .before .before .before .before in let a = s .args in let p = c .before .before .before .before .before .before .before .before .before .before .level-place in let q = c .before .before .before .before .before .write-right in front-peel (chosen (a .field)) (a .low) (a .m) (a .g .now) (a .t .now) (a .t2 .now) (a .work .now) (s .pre) (p .result .size) (p .result .off) (p .result .end) (p .ensures) _ (q .last .1 .1 .1 .1 .1 .0) refl (q .kept .1 .1 .1 .1 .1 .0) (q .ensures)
 
 same-length : tie.Need-same-length
 same-length c = search needs
 
 returns : tie.Need-returns
-returns c = let s = c .before .before .before .before .before .before .before .before .before .before .before .before .before .before .before .before .before .before in let a = s .args in let p = c .before .before .before .before .before .before .before .before .before .before .before .before .before .level-place in let q = c .before .before .before .before .before .before .before .before .write-right in let r = c .before .before .peel-front in stepped 𝔽₁ (a .low) (a .m) (a .g .now) (a .t .now) (a .t2 .now) (a .work .now) (s .pre) (p .result .size) (p .result .off) (p .result .end) (p .ensures) _ (q .last .1 .1 .1 .1 .1 .0) refl (q .kept .1 .1 .1 .1 .1 .0) (q .ensures) (r .result) (r .last .1 .1 .0) (r .kept .1 .1 .0) (r .ensures)
+returns c = let s = c .before .before .before .before .before .before .before .before .before .before .before .before .before .before .before .before .before .before in let a = s .args in let p = c .before .before .before .before .before .before .before .before .before .before .before .before .before .level-place in let q = c .before .before .before .before .before .before .before .before .write-right in let r = c .before .before .peel-front in stepped (chosen (a .field)) (a .low) (a .m) (a .g .now) (a .t .now) (a .t2 .now) (a .work .now) (s .pre) (p .result .size) (p .result .off) (p .result .end) (p .ensures) _ (q .last .1 .1 .1 .1 .1 .0) refl (q .kept .1 .1 .1 .1 .1 .0) (q .ensures) (r .result) (r .last .1 .1 .0) (r .kept .1 .1 .0) (r .ensures)
 
 pub step-spec : {M : Type 1} → statement M
 step-spec =

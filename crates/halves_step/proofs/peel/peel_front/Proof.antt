@@ -2,20 +2,20 @@ use mathlib.Core.Path.{_≡_, refl}
 use Prim.Native.Nat.{_-_, _≤_}
 use native.Mathlib.Omega.{arith}
 use lib.ListN.{length}
-use Rattle.algebra.specs.Words.{𝔽₁}
+use Rattle.residue.specs.Chosen.{chosen}
 use Rattle.residue.specs.ResidueLaws.{is-low}
 use Rattle.halves_step.proofs.Peeling.{FrontTo, front-none, front-length, front-low, front-turn, front-end}
 use Rattle.halves_step.proofs.peel.peel_front.Statement.{statement}
 use Rattle.halves_step.proofs.peel.peel_front.Tie as tie
 
 abbrev Inv-loop : tie.InvT-loop
-Inv-loop t t2 w₀ n ok₀ i₀ w ok i = (i ≤ n) × (length w ≡ length w₀) × FrontTo 𝔽₁ t t2 w₀ i ok w
+Inv-loop t t2 w₀ field n ok₀ i₀ w ok i = (i ≤ n) × (length w ≡ length w₀) × FrontTo (chosen field) t t2 w₀ i ok w
 
 abbrev μ-loop : tie.MeasureT-loop
-μ-loop t t2 w₀ n ok₀ i₀ w ok i = n - i
+μ-loop t t2 w₀ field n ok₀ i₀ w ok i = n - i
 
 loop-holds : tie.Need-loop-holds Inv-loop μ-loop
-loop-holds c = let s = c .before .before .before in let a = s .args in (omega arith, refl, front-none 𝔽₁ (a .t .now) (a .t2 .now) (a .w .now) (s .pre))
+loop-holds c = let s = c .before .before .before in let a = s .args in (omega arith, refl, front-none (chosen (a .field)) (a .t .now) (a .t2 .now) (a .w .now) (s .pre))
 
 add-k : tie.Need-add-k Inv-loop μ-loop
 add-k c = let l = c .before .loop in let s = c .before .before .before .before .before in let a = s .args in omega (arith, s .pre .size, s .pre .second)
@@ -42,7 +42,7 @@ shared-slice-read-minus-product : tie.Need-shared-slice-read-minus-product Inv-l
 shared-slice-read-minus-product c = let l = c .before .before .before .before .loop in let s = c .before .before .before .before .before .before .before .before in let a = s .args in omega (arith, s .pre .second)
 
 minus-product-requires : tie.Need-minus-product-requires Inv-loop μ-loop
-minus-product-requires c κs = let l = c .before .before .before .before .loop in let s = c .before .before .before .before .before .before .before .before in let a = s .args in let k = s .pre .second in let x = s .pre .low .low (l .i) (omega arith) in let y = s .pre .low' .low (l .i) (omega arith) in let e = front-low 𝔽₁ (a .t .now) (a .t2 .now) (a .w .now) (s .pre) (l .i) (l .ok) (l .w) (omega arith) (l .inv .2) in (omega arith, omega arith, omega arith)
+minus-product-requires c κs = let l = c .before .before .before .before .loop in let s = c .before .before .before .before .before .before .before .before in let a = s .args in let k = s .pre .second in let x = s .pre .low .low (l .i) (omega arith) in let y = s .pre .low' .low (l .i) (omega arith) in let e = front-low (chosen (a .field)) (a .t .now) (a .t2 .now) (a .w .now) (s .pre) (l .i) (l .ok) (l .w) (omega arith) (l .inv .2) in (omega arith, omega arith, omega arith)
 
 mul-plus-product : tie.Need-mul-plus-product Inv-loop μ-loop
 mul-plus-product c = let l = c .before .before .before .before .before .loop in let s = c .before .before .before .before .before .before .before .before .before in let a = s .args in omega (arith, s .pre .size, s .pre .second)
@@ -51,7 +51,7 @@ shared-slice-read-plus-product : tie.Need-shared-slice-read-plus-product Inv-loo
 shared-slice-read-plus-product c = let l = c .before .before .before .before .before .before .loop in let s = c .before .before .before .before .before .before .before .before .before .before in let a = s .args in omega (arith, s .pre .size, s .pre .second)
 
 plus-product-requires : tie.Need-plus-product-requires Inv-loop μ-loop
-plus-product-requires c κs = let l = c .before .before .before .before .before .before .loop in let s = c .before .before .before .before .before .before .before .before .before .before in let a = s .args in let k = s .pre .second in let x = s .pre .low .low (l .i) (omega arith) in let y = s .pre .low' .low (l .i) (omega arith) in let e = front-low 𝔽₁ (a .t .now) (a .t2 .now) (a .w .now) (s .pre) (l .i) (l .ok) (l .w) (omega arith) (l .inv .2) in (is-low 𝔽₁ _ (c .before .minus-product .ensures), omega arith, omega arith)
+plus-product-requires c κs = let l = c .before .before .before .before .before .before .loop in let s = c .before .before .before .before .before .before .before .before .before .before in let a = s .args in let 𝓕 = chosen (a .field) in let k = s .pre .second in let x = s .pre .low .low (l .i) (omega arith) in let y = s .pre .low' .low (l .i) (omega arith) in let e = front-low 𝓕 (a .t .now) (a .t2 .now) (a .w .now) (s .pre) (l .i) (l .ok) (l .w) (omega arith) (l .inv .2) in (is-low 𝓕 _ (c .before .minus-product .ensures), omega arith, omega arith)
 
 mul-ok : tie.Need-mul-ok Inv-loop μ-loop
 mul-ok c = let l = c .before .before .before .before .before .before .before .loop in let s = c .before .before .before .before .before .before .before .before .before .before .before in let a = s .args in omega (arith, s .pre .size, s .pre .second)
@@ -72,13 +72,13 @@ loop-less : tie.Need-loop-less Inv-loop μ-loop
 loop-less c = omega arith
 
 loop-again : tie.Need-loop-again Inv-loop μ-loop
-loop-again c = let l = c .before .before .before .before .before .before .before .before .loop in let s = c .before .before .before .before .before .before .before .before .before .before .before .before in let a = s .args in let p = front-turn 𝔽₁ (a .t .now) (a .t2 .now) (a .w .now) (s .pre) (l .i) (l .ok) (l .w) (omega arith) (l .inv .2) _ _ (c .before .before .before .minus-product .ensures) (c .before .plus-product .ensures) in (omega arith, front-length 𝔽₁ (a .t .now) (a .t2 .now) (a .w .now) (s .pre) _ _ _ p, p)
+loop-again c = let l = c .before .before .before .before .before .before .before .before .loop in let s = c .before .before .before .before .before .before .before .before .before .before .before .before in let a = s .args in let 𝓕 = chosen (a .field) in let p = front-turn 𝓕 (a .t .now) (a .t2 .now) (a .w .now) (s .pre) (l .i) (l .ok) (l .w) (omega arith) (l .inv .2) _ _ (c .before .before .before .minus-product .ensures) (c .before .plus-product .ensures) in (omega arith, front-length 𝓕 (a .t .now) (a .t2 .now) (a .w .now) (s .pre) _ _ _ p, p)
 
 same-length : tie.Need-same-length Inv-loop μ-loop
 same-length c = omega arith
 
 returns : tie.Need-returns Inv-loop μ-loop
-returns c = let l = c .before .loop in let s = c .before .before .before .before .before in let a = s .args in front-end 𝔽₁ (a .t .now) (a .t2 .now) (a .w .now) (s .pre) (l .i) (l .ok) (l .w) (omega arith) (omega arith) (l .inv .2)
+returns c = let l = c .before .loop in let s = c .before .before .before .before .before in let a = s .args in front-end (chosen (a .field)) (a .t .now) (a .t2 .now) (a .w .now) (s .pre) (l .i) (l .ok) (l .w) (omega arith) (omega arith) (l .inv .2)
 
 pub peel-front-spec : {M : Type 1} → statement M
 peel-front-spec =

@@ -1,6 +1,6 @@
 use mathlib.Core.Path.{refl}
 use native.Mathlib.Omega.{arith}
-use Rattle.algebra.specs.Words.{𝔽₁}
+use Rattle.residue.specs.Chosen.{chosen}
 use Rattle.halves_step.proofs.Spreading.{right-lent, ends, lift-lent, written}
 use borrow.Author.Needs.{needs}
 use Rattle.halves_step.proofs.right.write_right.Statement.{statement}
@@ -10,13 +10,13 @@ message-len-requires : tie.Need-message-len-requires
 message-len-requires c κs = search needs
 
 spread-right-requires : tie.Need-spread-right-requires
-spread-right-requires c κs = let s = c .before .before .before .before .before .before in let a = s .args in let k = c .before .message-len in rw (k .ensures) (right-lent 𝔽₁ (a .level) (a .b) (a .g .now) (a .t .now) (a .t2 .now) (a .work .now) (s .pre))
+spread-right-requires c κs = let s = c .before .before .before .before .before .before in let a = s .args in let k = c .before .message-len in rw (k .ensures) (right-lent (chosen (a .field)) (a .level) (a .b) (a .g .now) (a .t .now) (a .t2 .now) (a .work .now) (s .pre))
 
 mul-e : tie.Need-mul-e
-mul-e c = let s = c .before .before .before .before .before .before .before .before .before in let a = s .args in let k = c .before .before .before .before .message-len in let p = c .before .before .spread-right in omega (arith, ends 𝔽₁ (a .level) (a .b) (a .g .now) (a .t .now) (a .t2 .now) (a .work .now) (s .pre) (k .result) _ (p .last .1 .1 .1 .0) (k .ensures) refl (p .kept .1 .1 .1 .0) (p .ensures), p .kept .1 .1 .1 .0)
+mul-e c = let s = c .before .before .before .before .before .before .before .before .before in let a = s .args in let k = c .before .before .before .before .message-len in let p = c .before .before .spread-right in omega (arith, ends (chosen (a .field)) (a .level) (a .b) (a .g .now) (a .t .now) (a .t2 .now) (a .work .now) (s .pre) (k .result) _ (p .last .1 .1 .1 .0) (k .ensures) refl (p .kept .1 .1 .1 .0) (p .ensures), p .kept .1 .1 .1 .0)
 
 add-e : tie.Need-add-e
-add-e c = let s = c .before .before .before .before .before .before .before .before .before in let a = s .args in let k = c .before .before .before .before .message-len in let p = c .before .before .spread-right in omega (arith, ends 𝔽₁ (a .level) (a .b) (a .g .now) (a .t .now) (a .t2 .now) (a .work .now) (s .pre) (k .result) _ (p .last .1 .1 .1 .0) (k .ensures) refl (p .kept .1 .1 .1 .0) (p .ensures), p .kept .1 .1 .1 .0)
+add-e c = let s = c .before .before .before .before .before .before .before .before .before in let a = s .args in let k = c .before .before .before .before .message-len in let p = c .before .before .spread-right in omega (arith, ends (chosen (a .field)) (a .level) (a .b) (a .g .now) (a .t .now) (a .t2 .now) (a .work .now) (s .pre) (k .result) _ (p .last .1 .1 .1 .0) (k .ensures) refl (p .kept .1 .1 .1 .0) (p .ensures), p .kept .1 .1 .1 .0)
 
 mul-lift : tie.Need-mul-lift
 mul-lift c = search needs
@@ -28,16 +28,16 @@ part-lift-start : tie.Need-part-lift-start
 part-lift-start c = search needs
 
 part-lift-end : tie.Need-part-lift-end
-part-lift-end c = let s = c .before .before .before .before .before .before .before .before .before in let a = s .args in let k = c .before .before .before .before .message-len in let p = c .before .before .spread-right in ends 𝔽₁ (a .level) (a .b) (a .g .now) (a .t .now) (a .t2 .now) (a .work .now) (s .pre) (k .result) _ (p .last .1 .1 .1 .0) (k .ensures) refl (p .kept .1 .1 .1 .0) (p .ensures) .1
+part-lift-end c = let s = c .before .before .before .before .before .before .before .before .before in let a = s .args in let k = c .before .before .before .before .message-len in let p = c .before .before .spread-right in ends (chosen (a .field)) (a .level) (a .b) (a .g .now) (a .t .now) (a .t2 .now) (a .work .now) (s .pre) (k .result) _ (p .last .1 .1 .1 .0) (k .ensures) refl (p .kept .1 .1 .1 .0) (p .ensures) .1
 
 lift-requires : tie.Need-lift-requires
-lift-requires c κs = let s = c .before .before .before .before .before .before .before .before .before .before in let a = s .args in let k = c .before .before .before .before .before .message-len in let p = c .before .before .before .spread-right in lift-lent 𝔽₁ (a .level) (a .b) (a .g .now) (a .t .now) (a .t2 .now) (a .work .now) (s .pre) (k .result) _ (p .last .1 .1 .1 .0) (k .ensures) refl (p .kept .1 .1 .1 .0) (p .ensures)
+lift-requires c κs = let s = c .before .before .before .before .before .before .before .before .before .before in let a = s .args in let k = c .before .before .before .before .before .message-len in let p = c .before .before .before .spread-right in lift-lent (chosen (a .field)) (a .level) (a .b) (a .g .now) (a .t .now) (a .t2 .now) (a .work .now) (s .pre) (k .result) _ (p .last .1 .1 .1 .0) (k .ensures) refl (p .kept .1 .1 .1 .0) (p .ensures)
 
 same-length : tie.Need-same-length
 same-length c = search needs
 
 returns : tie.Need-returns
-returns c = let s = c .before .before .before .before .before .before .before .before .before .before .before .before .before in let a = s .args in let k = c .before .before .before .before .before .before .before .before .message-len in let p = c .before .before .before .before .before .before .spread-right in written 𝔽₁ (a .level) (a .b) (a .g .now) (a .t .now) (a .t2 .now) (a .work .now) (s .pre) (k .result) _ (p .last .1 .1 .1 .0) (k .ensures) refl (p .kept .1 .1 .1 .0) (p .ensures) (c .before .before .lift .last .1 .1 .1 .1 .0) (c .before .before .lift .kept .1 .1 .1 .1 .0) (c .before .before .lift .ensures)
+returns c = let s = c .before .before .before .before .before .before .before .before .before .before .before .before .before in let a = s .args in let k = c .before .before .before .before .before .before .before .before .message-len in let p = c .before .before .before .before .before .before .spread-right in written (chosen (a .field)) (a .level) (a .b) (a .g .now) (a .t .now) (a .t2 .now) (a .work .now) (s .pre) (k .result) _ (p .last .1 .1 .1 .0) (k .ensures) refl (p .kept .1 .1 .1 .0) (p .ensures) (c .before .before .lift .last .1 .1 .1 .1 .0) (c .before .before .lift .kept .1 .1 .1 .1 .0) (c .before .before .lift .ensures)
 
 pub write-right-spec : {M : Type 1} → statement M
 write-right-spec =

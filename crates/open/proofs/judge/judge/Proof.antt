@@ -1,5 +1,5 @@
 use lib.ListN.{length}
-use Rattle.algebra.specs.Words.{𝔽₁}
+use Rattle.residue.specs.Chosen.{chosen}
 use Rattle.parameters.specs.ParameterLaws.{judged-by}
 use Rattle.open.specs.Writing.{writeLengths, inputWords, judgeWriting}
 use borrow.Author.Needs.{needs}
@@ -20,10 +20,10 @@ judge-requires c κs = search needs
 
 returns : tie.Need-returns
 unfolding judgeWriting
-returns c = let a = c .before .before .before .before .before .before .before .before .before .before .args in
-    judged-by 𝔽₁ (a .depth) (a .rate) (a .g .now) (a .t .now) (a .t2 .now)
+returns c = let a = c .before .before .before .before .before .before .before .before .before .before .args in let 𝓕 = chosen (a .field) in
+    judged-by 𝓕 (a .depth) (a .rate) (a .g .now) (a .t .now) (a .t2 .now)
     (writeLengths (a .depth) (a .rate) (length (a .g .now)) (length (a .t .now)) (length (a .t2 .now)) (length (a .m .now)) (length (a .z .now)) (length (a .r .now)) (a .o) (a .s))
-    (inputWords 𝔽₁ (a .m .now) (a .z .now) (a .r .now)) (c .before .before .before .lengths-ok .ensures) (c .before .before .scan-row .ensures) (c .before .words-ok .ensures) (c .judge .ensures)
+    (inputWords 𝓕 (a .m .now) (a .z .now) (a .r .now)) (c .before .before .before .lengths-ok .ensures) (c .before .before .scan-row .ensures) (c .before .words-ok .ensures) (c .judge .ensures)
 
 pub judge-spec : {M : Type 1} → statement M
 judge-spec = tie.close (tie.spec lengths-ok-requires scan-row-requires words-ok-requires judge-requires returns)

@@ -1,6 +1,6 @@
 use mathlib.Core.Path.{ap₂, _∙_}
-use Rattle.algebra.specs.Words.{𝔽₁}
-use Rattle.residue.specs.Residues.{el, word}
+use Rattle.residue.specs.Elements.{el, word}
+use Rattle.residue.specs.Chosen.{chosen}
 use Rattle.polynomial.specs.Eq.{factor}
 use borrow.Author.Needs.{needs}
 use Rattle.polynomial.proofs.eq.factor_at.Statement.{statement}
@@ -28,7 +28,7 @@ factor-requires : tie.Need-factor-requires
 factor-requires c κs = let s = c .before .before .before .before .before .before in (rw (c .before .before .new .ensures) (s .pre .0 .low _ (s .pre .2)), rw (c .new2 .ensures) (s .pre .1 .low _ (s .pre .3)))
 
 returns : tie.Need-returns
-returns c = c .factor .ensures ∙ ap₂ (λ z x. word (factor 𝔽₁ (el z) (el x))) (c .before .before .before .new .ensures) (c .before .new2 .ensures)
+returns c = let 𝓕 = chosen (c .before .before .before .before .before .before .before .args .field) in c .factor .ensures ∙ ap₂ (λ z x. word 𝓕 (factor 𝓕 (el 𝓕 z) (el 𝓕 x))) (c .before .before .before .new .ensures) (c .before .new2 .ensures)
 
 pub factor-at-spec : {M : Type 1} → statement M
 factor-at-spec =

@@ -1,19 +1,19 @@
 use mathlib.Core.Path.{subst}
 use Prim.Native.Nat.{_-_, _≤_}
 use native.Mathlib.Omega.{arith}
-use Rattle.algebra.specs.Words.{𝔽₁}
+use Rattle.residue.specs.Chosen.{chosen}
 use Rattle.polynomial.proofs.LowMonomials.{Extending, extending-none, extending-turn, extending-end}
 use Rattle.polynomial.proofs.monomials.extend.Statement.{statement}
 use Rattle.polynomial.proofs.monomials.extend.Tie as tie
 
 abbrev Inv-loop : tie.InvT-loop
-Inv-loop w₀ size x b₀ w b = (b ≤ size) × Extending 𝔽₁ b size x w₀ w
+Inv-loop w₀ size x field b₀ w b = (b ≤ size) × Extending (chosen field) b size x w₀ w
 
 abbrev μ-loop : tie.MeasureT-loop
-μ-loop w₀ size x b₀ w b = size - b
+μ-loop w₀ size x field b₀ w b = size - b
 
 loop-holds : tie.Need-loop-holds Inv-loop μ-loop
-loop-holds c = (omega arith, extending-none 𝔽₁ _ _ _)
+loop-holds c = (omega arith, extending-none (chosen (c .before .args .field)) _ _ _)
 
 mul-times : tie.Need-mul-times Inv-loop μ-loop
 mul-times c = omega arith
@@ -46,7 +46,7 @@ loop-again : tie.Need-loop-again Inv-loop μ-loop
 loop-again c =
     let l = c .before .before .before .loop in
     let s = c .before .before .before .before .before in
-    (omega arith, extending-turn 𝔽₁ (l .b) (s .args .size) (s .args .x) (c .times .result) (s .args .w .now) (l .w) (s .pre .room) (omega arith) (c .times .ensures) (l .inv .1))
+    (omega arith, extending-turn (chosen (s .args .field)) (l .b) (s .args .size) (s .args .x) (c .times .result) (s .args .w .now) (l .w) (s .pre .room) (omega arith) (c .times .ensures) (l .inv .1))
 
 same-length : tie.Need-same-length Inv-loop μ-loop
 same-length c = c .before .loop .inv .1 .long
@@ -55,7 +55,8 @@ returns : tie.Need-returns Inv-loop μ-loop
 returns c =
     let l = c .before .loop in
     let a = c .before .before .before .args in
-    extending-end 𝔽₁ (a .size) (a .x) (a .w .now) (l .w) (subst (λ b. Extending 𝔽₁ b (a .size) (a .x) (a .w .now) (l .w)) (omega arith) (l .inv .1))
+    let 𝓕 = chosen (a .field) in
+    extending-end 𝓕 (a .size) (a .x) (a .w .now) (l .w) (subst (λ b. Extending 𝓕 b (a .size) (a .x) (a .w .now) (l .w)) (omega arith) (l .inv .1))
 
 pub extend-spec : {M : Type 1} → statement M
 extend-spec =

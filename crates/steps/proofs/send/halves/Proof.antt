@@ -1,6 +1,6 @@
 use native.Mathlib.Omega.{arith}
 use lib.ListN.{length-take}
-use Rattle.algebra.specs.Words.{𝔽₁}
+use Rattle.residue.specs.Chosen.{chosen}
 use Rattle.polynomial.specs.EvaluationLaws.{left-input, right-input}
 use Rattle.steps.proofs.Sends.{half-values}
 use borrow.Author.Needs.{needs}
@@ -17,7 +17,7 @@ slice-aggregate-value-2 : tie.Need-slice-aggregate-value-2
 slice-aggregate-value-2 c = simp length-take (omega arith)
 
 value-requires : tie.Need-value-requires
-value-requires c κs = let s = c .before .before .before .before in left-input 𝔽₁ (s .args .m .now) (s .args .z .now) (s .pre .value) (s .pre .top)
+value-requires c κs = let s = c .before .before .before .before in left-input (chosen (s .args .field)) (s .args .m .now) (s .args .z .now) (s .pre .value) (s .pre .top)
 
 mul-value : tie.Need-mul-value
 mul-value c = search needs
@@ -35,10 +35,10 @@ slice-aggregate-value-3 : tie.Need-slice-aggregate-value-3
 slice-aggregate-value-3 c = simp length-take (omega arith)
 
 value-requires-2 : tie.Need-value-requires-2
-value-requires-2 c κs = let s = c .before .before .before .before .before .before .before in right-input 𝔽₁ (s .args .m .now) (s .args .z .now) (s .pre .value) (s .pre .top)
+value-requires-2 c κs = let s = c .before .before .before .before .before .before .before in right-input (chosen (s .args .field)) (s .args .m .now) (s .args .z .now) (s .pre .value) (s .pre .top)
 
 returns : tie.Need-returns
-returns c = let s = c .before .before .before .before .before .before .before .before in half-values 𝔽₁ (s .args .z .now) (s .args .m .now) (s .pre) _ _ (c .before .before .before .value .ensures) (c .value2 .ensures)
+returns c = let s = c .before .before .before .before .before .before .before .before in half-values (chosen (s .args .field)) (s .args .z .now) (s .args .m .now) (s .pre) _ _ (c .before .before .before .value .ensures) (c .value2 .ensures)
 
 pub halves-spec : {M : Type 1} → statement M
 halves-spec =

@@ -1,5 +1,5 @@
 use native.Mathlib.Omega.{arith}
-use Rattle.algebra.specs.Words.{𝔽₁}
+use Rattle.residue.specs.Chosen.{chosen}
 use Rattle.residue.specs.ResidueLaws.{is-low}
 use Rattle.steps.proofs.Sends.{sent}
 use borrow.Author.Needs.{needs}
@@ -22,16 +22,16 @@ new-requires : tie.Need-new-requires
 new-requires c κs = let s = c .before .before .before .before .before .before .before in s .pre .halves .value .point .low _ (let l = s .pre .halves .top in omega arith)
 
 value-at-requires : tie.Need-value-at-requires
-value-at-requires c κs = let s = c .before .before .before .before .before .before .before .before in (s .pre .weight, rw (c .new .ensures) (s .pre .halves .value .point .low _ (let l = s .pre .halves .top in omega arith)), is-low 𝔽₁ _ (c .before .before .before .before .halves .ensures .left-is), is-low 𝔽₁ _ (c .before .before .before .before .halves .ensures .right-is), omega arith)
+value-at-requires c κs = let s = c .before .before .before .before .before .before .before .before in let 𝓕 = chosen (s .args .field) in (s .pre .weight, rw (c .new .ensures) (s .pre .halves .value .point .low _ (let l = s .pre .halves .top in omega arith)), is-low 𝓕 _ (c .before .before .before .before .halves .ensures .left-is), is-low 𝓕 _ (c .before .before .before .before .halves .ensures .right-is), omega arith)
 
 value-at-requires-2 : tie.Need-value-at-requires-2
-value-at-requires-2 c κs = let s = c .before .before .before .before .before .before .before .before .before in (s .pre .weight, rw (c .before .new .ensures) (s .pre .halves .value .point .low _ (let l = s .pre .halves .top in omega arith)), is-low 𝔽₁ _ (c .before .before .before .before .before .halves .ensures .left-is), is-low 𝔽₁ _ (c .before .before .before .before .before .halves .ensures .right-is), omega arith)
+value-at-requires-2 c κs = let s = c .before .before .before .before .before .before .before .before .before in let 𝓕 = chosen (s .args .field) in (s .pre .weight, rw (c .before .new .ensures) (s .pre .halves .value .point .low _ (let l = s .pre .halves .top in omega arith)), is-low 𝓕 _ (c .before .before .before .before .before .halves .ensures .left-is), is-low 𝓕 _ (c .before .before .before .before .before .halves .ensures .right-is), omega arith)
 
 new-requires-2 : tie.Need-new-requires-2
-new-requires-2 c κs = search needs
+new-requires-2 c κs = chosen (c .before .before .before .before .before .before .before .before .before .before .args .field) .above
 
 value-at-requires-3 : tie.Need-value-at-requires-3
-value-at-requires-3 c κs = let s = c .before .before .before .before .before .before .before .before .before .before .before in (s .pre .weight, rw (c .before .before .before .new .ensures) (s .pre .halves .value .point .low _ (let l = s .pre .halves .top in omega arith)), is-low 𝔽₁ _ (c .before .before .before .before .before .before .before .halves .ensures .left-is), is-low 𝔽₁ _ (c .before .before .before .before .before .before .before .halves .ensures .right-is), omega (arith, c .new2 .ensures))
+value-at-requires-3 c κs = let s = c .before .before .before .before .before .before .before .before .before .before .before in let 𝓕 = chosen (s .args .field) in (s .pre .weight, rw (c .before .before .before .new .ensures) (s .pre .halves .value .point .low _ (let l = s .pre .halves .top in omega arith)), is-low 𝓕 _ (c .before .before .before .before .before .before .before .halves .ensures .left-is), is-low 𝓕 _ (c .before .before .before .before .before .before .before .halves .ensures .right-is), omega (arith, c .new2 .ensures))
 
 three-requires : tie.Need-three-requires
 three-requires c κs = search needs
@@ -40,7 +40,7 @@ same-length : tie.Need-same-length
 same-length c = search needs
 
 returns : tie.Need-returns
-returns c = let s = c .before .before .before .before .before .before .before .before .before .before .before .before .before .before .before .before in let a = s .args in sent 𝔽₁ (a .w) (a .z .now) (a .m .now) (s .pre .halves) _ _ _ (c .before .before .before .before .before .before .before .before .before .before .before .before .halves .ensures) (c .before .before .before .before .before .before .before .before .new .ensures) _ (c .before .before .before .before .before .new2 .ensures) (c .before .before .three .ensures) (c .before .before .before .before .before .before .before .value-at .ensures) (c .before .before .before .before .before .before .value-at2 .ensures) (c .before .before .before .before .value-at3 .ensures)
+returns c = let s = c .before .before .before .before .before .before .before .before .before .before .before .before .before .before .before .before in let a = s .args in sent (chosen (a .field)) (a .w) (a .z .now) (a .m .now) (s .pre .halves) _ _ _ (c .before .before .before .before .before .before .before .before .before .before .before .before .halves .ensures) (c .before .before .before .before .before .before .before .before .new .ensures) _ (c .before .before .before .before .before .new2 .ensures) (c .before .before .three .ensures) (c .before .before .before .before .before .before .before .value-at .ensures) (c .before .before .before .before .before .before .value-at2 .ensures) (c .before .before .before .before .value-at3 .ensures)
 
 pub send-spec : {M : Type 1} → statement M
 send-spec =

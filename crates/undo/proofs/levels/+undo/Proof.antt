@@ -1,6 +1,6 @@
 use mathlib.Core.Path.{_∙_}
-use Rattle.algebra.specs.Words.{𝔽₁}
-use Rattle.residue.specs.Residues.{el, elem, word, _⊠_}
+use Rattle.residue.specs.Elements.{product}
+use Rattle.residue.specs.Chosen.{chosen}
 use native.Mathlib.Omega.{arith}
 use borrow.Author.Needs.{needs}
 use lib.ListN.{length-set}
@@ -32,19 +32,19 @@ abbrev rs : ℕ → undo-lts.Claims
 rs t = (new-reads.Asked, new-reads.Learnt, times-reads.Asked, times-reads.Learnt, word-reads.Asked, word-reads.Learnt, column-half-reads.Asked, column-half-reads.Learnt, uncross-reads.Asked, uncross-reads.Learnt, undo-below t, undo.Post)
 
 undo-slice-read-new : (t : ℕ) → undo-lts.Need-slice-read-new (rs t) (undo-at t) undo.Post
-undo-slice-read-new t c = let s = c .before .before .before .before in let a = s .args in some-words 𝔽₁ (a .depth) (a .a) (a .x) (a .c) (a .t .now) (a .w .now) (s .pre .1)
+undo-slice-read-new t c = let s = c .before .before .before .before in let a = s .args in some-words (chosen (a .field)) (a .depth) (a .a) (a .x) (a .c) (a .t .now) (a .w .now) (s .pre .1)
 
 undo-new-requires : (t : ℕ) → undo-lts.Need-new-requires (rs t) (undo-at t) undo.Post
-undo-new-requires t c κs = let s = c .before .before .before .before in let a = s .args in s .pre .1 .block .low 0 (some-words 𝔽₁ (a .depth) (a .a) (a .x) (a .c) (a .t .now) (a .w .now) (s .pre .1))
+undo-new-requires t c κs = let s = c .before .before .before .before in let a = s .args in s .pre .1 .block .low 0 (some-words (chosen (a .field)) (a .depth) (a .a) (a .x) (a .c) (a .t .now) (a .w .now) (s .pre .1))
 
 undo-times-requires : (t : ℕ) → undo-lts.Need-times-requires (rs t) (undo-at t) undo.Post
-undo-times-requires t c κs = let s = c .before .before .before .before .before in let a = s .args in (s .pre .1 .unit, rw (c .new .ensures) (s .pre .1 .block .low 0 (some-words 𝔽₁ (a .depth) (a .a) (a .x) (a .c) (a .t .now) (a .w .now) (s .pre .1))))
+undo-times-requires t c κs = let s = c .before .before .before .before .before in let a = s .args in (s .pre .1 .unit, rw (c .new .ensures) (s .pre .1 .block .low 0 (some-words (chosen (a .field)) (a .depth) (a .a) (a .x) (a .c) (a .t .now) (a .w .now) (s .pre .1))))
 
 undo-word-requires : (t : ℕ) → undo-lts.Need-word-requires (rs t) (undo-at t) undo.Post
 undo-word-requires t c κs = search needs
 
 undo-slice-write-w : (t : ℕ) → undo-lts.Need-slice-write-w (rs t) (undo-at t) undo.Post
-undo-slice-write-w t c = let s = c .before .before .before .before .before .before .before in let a = s .args in some-words 𝔽₁ (a .depth) (a .a) (a .x) (a .c) (a .t .now) (a .w .now) (s .pre .1)
+undo-slice-write-w t c = let s = c .before .before .before .before .before .before .before in let a = s .args in some-words (chosen (a .field)) (a .depth) (a .a) (a .x) (a .c) (a .t .now) (a .w .now) (s .pre .1)
 
 undo-same-length : (t : ℕ) → undo-lts.Need-same-length (rs t) (undo-at t) undo.Post
 undo-same-length t c = simp length-set
@@ -53,68 +53,69 @@ undo-returns : (t : ℕ) → undo-lts.Need-returns (rs t) (undo-at t) undo.Post
 undo-returns t c =
     let s = c .before .before .before .before .before .before .before in
     let a = s .args in
-    undo-none 𝔽₁ (a .depth) (a .a) (a .x) (a .c) (a .t .now) (a .w .now) (s .pre .1) (omega arith) _ (c .word .ensures ∙ c .before .times .ensures ∙ (λ k. word (elem (a .x) ⊠ el (c .before .before .new .ensures k))))
+    let 𝓕 = chosen (a .field) in
+    undo-none 𝓕 (a .depth) (a .a) (a .x) (a .c) (a .t .now) (a .w .now) (s .pre .1) (omega arith) _ (c .word .ensures ∙ c .before .times .ensures ∙ (λ k. product 𝓕 (a .x .0) (c .before .before .new .ensures k)))
 
 undo-column-half-requires : (t : ℕ) → undo-lts.Need-column-half-requires (rs t) (undo-at t) undo.Post
 undo-column-half-requires t c κs = let s = c .before .before .before in let a = s .args in (omega arith, s .pre .1 .depth, s .pre .1 .wide)
 
 undo-add-q : (t : ℕ) → undo-lts.Need-add-q (rs t) (undo-at t) undo.Post
 undo-add-q t c =
-    let s = c .before .before .before .before .before in let a = s .args in let p = c .before .column-half in let u = uncrossing 𝔽₁ (a .depth) (a .a) (a .x) (a .c) (a .t .now) (a .w .now) (s .pre .1) (p .result .half) (p .result .skip) (p .result .off) (p .result .low) (p .ensures) .within in omega arith
+    let s = c .before .before .before .before .before in let a = s .args in let p = c .before .column-half in let u = uncrossing (chosen (a .field)) (a .depth) (a .a) (a .x) (a .c) (a .t .now) (a .w .now) (s .pre .1) (p .result .half) (p .result .skip) (p .result .off) (p .result .low) (p .ensures) .within in omega arith
 
 undo-sub-b : (t : ℕ) → undo-lts.Need-sub-b (rs t) (undo-at t) undo.Post
 undo-sub-b t c =
-    let s = c .before .before .before .before .before in let a = s .args in let p = c .before .column-half in half-before 𝔽₁ (a .depth) (a .a) (a .x) (a .c) (a .t .now) (a .w .now) (s .pre .1) (p .result .half) (p .result .skip) (p .result .off) (p .result .low) (p .ensures)
+    let s = c .before .before .before .before .before in let a = s .args in let p = c .before .column-half in half-before (chosen (a .field)) (a .depth) (a .a) (a .x) (a .c) (a .t .now) (a .w .now) (s .pre .1) (p .result .half) (p .result .skip) (p .result .off) (p .result .low) (p .ensures)
 
 undo-mul-uncross : (t : ℕ) → undo-lts.Need-mul-uncross (rs t) (undo-at t) undo.Post
 undo-mul-uncross t c =
-    let s = c .before .before .before .before .before in let a = s .args in let p = c .before .column-half in let u = off-within 𝔽₁ (a .depth) (a .a) (a .x) (a .c) (a .t .now) (a .w .now) (s .pre .1) (p .result .half) (p .result .skip) (p .result .off) (p .result .low) (p .ensures) in omega arith
+    let s = c .before .before .before .before .before in let a = s .args in let p = c .before .column-half in let u = off-within (chosen (a .field)) (a .depth) (a .a) (a .x) (a .c) (a .t .now) (a .w .now) (s .pre .1) (p .result .half) (p .result .skip) (p .result .off) (p .result .low) (p .ensures) in omega arith
 
 undo-sub-uncross : (t : ℕ) → undo-lts.Need-sub-uncross (rs t) (undo-at t) undo.Post
 undo-sub-uncross t c =
-    let s = c .before .before .before .before .before in let a = s .args in let p = c .before .column-half in off-within 𝔽₁ (a .depth) (a .a) (a .x) (a .c) (a .t .now) (a .w .now) (s .pre .1) (p .result .half) (p .result .skip) (p .result .off) (p .result .low) (p .ensures)
+    let s = c .before .before .before .before .before in let a = s .args in let p = c .before .column-half in off-within (chosen (a .field)) (a .depth) (a .a) (a .x) (a .c) (a .t .now) (a .w .now) (s .pre .1) (p .result .half) (p .result .skip) (p .result .off) (p .result .low) (p .ensures)
 
 undo-part-uncross-start : (t : ℕ) → undo-lts.Need-part-uncross-start (rs t) (undo-at t) undo.Post
 undo-part-uncross-start t c =
-    let s = c .before .before .before .before .before in let a = s .args in let p = c .before .column-half in off-within 𝔽₁ (a .depth) (a .a) (a .x) (a .c) (a .t .now) (a .w .now) (s .pre .1) (p .result .half) (p .result .skip) (p .result .off) (p .result .low) (p .ensures)
+    let s = c .before .before .before .before .before in let a = s .args in let p = c .before .column-half in off-within (chosen (a .field)) (a .depth) (a .a) (a .x) (a .c) (a .t .now) (a .w .now) (s .pre .1) (p .result .half) (p .result .skip) (p .result .off) (p .result .low) (p .ensures)
 
 undo-part-uncross-end : (t : ℕ) → undo-lts.Need-part-uncross-end (rs t) (undo-at t) undo.Post
 undo-part-uncross-end t c = search needs
 
 undo-uncross-requires : (t : ℕ) → undo-lts.Need-uncross-requires (rs t) (undo-at t) undo.Post
 undo-uncross-requires t c κs =
-    let s = c .before .before .before .before .before .before .before in let a = s .args in let p = c .before .before .before .column-half in uncrossing 𝔽₁ (a .depth) (a .a) (a .x) (a .c) (a .t .now) (a .w .now) (s .pre .1) (p .result .half) (p .result .skip) (p .result .off) (p .result .low) (p .ensures)
+    let s = c .before .before .before .before .before .before .before in let a = s .args in let p = c .before .before .before .column-half in uncrossing (chosen (a .field)) (a .depth) (a .a) (a .x) (a .c) (a .t .now) (a .w .now) (s .pre .1) (p .result .half) (p .result .skip) (p .result .off) (p .result .low) (p .ensures)
 
 undo-undo-requires : (t : ℕ) → undo-lts.Need-undo-requires (rs t) (undo-at t) undo.Post
 undo-undo-requires t c κs =
-    let s = c .before .before .before .before .before .before .before .before .before .before .before in let a = s .args in let p = c .before .before .before .before .before .before .before .column-half in (omega (arith, p .ensures .low-is, s .pre .0), undo-left 𝔽₁ (a .depth) (a .a) (a .x) (a .c) (a .t .now) (a .w .now) (s .pre .1) (p .result .half) (p .result .skip) (p .result .off) (p .result .low) (p .ensures) (c .before .before .before .uncross .last .1 .1 .1 .1 .0) (c .before .before .before .uncross .kept .1 .1 .1 .1 .0) (c .before .before .before .uncross .ensures))
+    let s = c .before .before .before .before .before .before .before .before .before .before .before in let a = s .args in let p = c .before .before .before .before .before .before .before .column-half in (omega (arith, p .ensures .low-is, s .pre .0), undo-left (chosen (a .field)) (a .depth) (a .a) (a .x) (a .c) (a .t .now) (a .w .now) (s .pre .1) (p .result .half) (p .result .skip) (p .result .off) (p .result .low) (p .ensures) (c .before .before .before .uncross .last .1 .1 .1 .1 .0) (c .before .before .before .uncross .kept .1 .1 .1 .1 .0) (c .before .before .before .uncross .ensures))
 
 undo-mul-undo : (t : ℕ) → undo-lts.Need-mul-undo (rs t) (undo-at t) undo.Post
 undo-mul-undo t c =
-    let s = c .before .before .before .before .before .before .before .before .before .before .before .before .before .before in let a = s .args in let p = c .before .before .before .before .before .before .before .before .before .before .column-half in let u = half-within 𝔽₁ (a .depth) (a .a) (a .x) (a .c) (a .t .now) (a .w .now) (s .pre .1) (p .result .half) (p .result .skip) (p .result .off) (p .result .low) (p .ensures) (c .before .before .before .before .before .before .uncross .last .1 .1 .1 .1 .0) (c .before .before .before .before .before .before .uncross .kept .1 .1 .1 .1 .0) (c .before .before .before .before .before .before .uncross .ensures) (c .before .before .undo .last .1 .1 .1 .1 .1 .0) (c .before .before .undo .kept .1 .1 .1 .1 .1 .0) (c .before .before .undo .ensures) in omega arith
+    let s = c .before .before .before .before .before .before .before .before .before .before .before .before .before .before in let a = s .args in let p = c .before .before .before .before .before .before .before .before .before .before .column-half in let u = half-within (chosen (a .field)) (a .depth) (a .a) (a .x) (a .c) (a .t .now) (a .w .now) (s .pre .1) (p .result .half) (p .result .skip) (p .result .off) (p .result .low) (p .ensures) (c .before .before .before .before .before .before .uncross .last .1 .1 .1 .1 .0) (c .before .before .before .before .before .before .uncross .kept .1 .1 .1 .1 .0) (c .before .before .before .before .before .before .uncross .ensures) (c .before .before .undo .last .1 .1 .1 .1 .1 .0) (c .before .before .undo .kept .1 .1 .1 .1 .1 .0) (c .before .before .undo .ensures) in omega arith
 
 undo-sub-undo : (t : ℕ) → undo-lts.Need-sub-undo (rs t) (undo-at t) undo.Post
 undo-sub-undo t c =
-    let s = c .before .before .before .before .before .before .before .before .before .before .before .before .before .before in let a = s .args in let p = c .before .before .before .before .before .before .before .before .before .before .column-half in half-within 𝔽₁ (a .depth) (a .a) (a .x) (a .c) (a .t .now) (a .w .now) (s .pre .1) (p .result .half) (p .result .skip) (p .result .off) (p .result .low) (p .ensures) (c .before .before .before .before .before .before .uncross .last .1 .1 .1 .1 .0) (c .before .before .before .before .before .before .uncross .kept .1 .1 .1 .1 .0) (c .before .before .before .before .before .before .uncross .ensures) (c .before .before .undo .last .1 .1 .1 .1 .1 .0) (c .before .before .undo .kept .1 .1 .1 .1 .1 .0) (c .before .before .undo .ensures)
+    let s = c .before .before .before .before .before .before .before .before .before .before .before .before .before .before in let a = s .args in let p = c .before .before .before .before .before .before .before .before .before .before .column-half in half-within (chosen (a .field)) (a .depth) (a .a) (a .x) (a .c) (a .t .now) (a .w .now) (s .pre .1) (p .result .half) (p .result .skip) (p .result .off) (p .result .low) (p .ensures) (c .before .before .before .before .before .before .uncross .last .1 .1 .1 .1 .0) (c .before .before .before .before .before .before .uncross .kept .1 .1 .1 .1 .0) (c .before .before .before .before .before .before .uncross .ensures) (c .before .before .undo .last .1 .1 .1 .1 .1 .0) (c .before .before .undo .kept .1 .1 .1 .1 .1 .0) (c .before .before .undo .ensures)
 
 undo-part-undo-start : (t : ℕ) → undo-lts.Need-part-undo-start (rs t) (undo-at t) undo.Post
 undo-part-undo-start t c =
-    let s = c .before .before .before .before .before .before .before .before .before .before .before .before .before .before in let a = s .args in let p = c .before .before .before .before .before .before .before .before .before .before .column-half in half-within 𝔽₁ (a .depth) (a .a) (a .x) (a .c) (a .t .now) (a .w .now) (s .pre .1) (p .result .half) (p .result .skip) (p .result .off) (p .result .low) (p .ensures) (c .before .before .before .before .before .before .uncross .last .1 .1 .1 .1 .0) (c .before .before .before .before .before .before .uncross .kept .1 .1 .1 .1 .0) (c .before .before .before .before .before .before .uncross .ensures) (c .before .before .undo .last .1 .1 .1 .1 .1 .0) (c .before .before .undo .kept .1 .1 .1 .1 .1 .0) (c .before .before .undo .ensures)
+    let s = c .before .before .before .before .before .before .before .before .before .before .before .before .before .before in let a = s .args in let p = c .before .before .before .before .before .before .before .before .before .before .column-half in half-within (chosen (a .field)) (a .depth) (a .a) (a .x) (a .c) (a .t .now) (a .w .now) (s .pre .1) (p .result .half) (p .result .skip) (p .result .off) (p .result .low) (p .ensures) (c .before .before .before .before .before .before .uncross .last .1 .1 .1 .1 .0) (c .before .before .before .before .before .before .uncross .kept .1 .1 .1 .1 .0) (c .before .before .before .before .before .before .uncross .ensures) (c .before .before .undo .last .1 .1 .1 .1 .1 .0) (c .before .before .undo .kept .1 .1 .1 .1 .1 .0) (c .before .before .undo .ensures)
 
 undo-part-undo-end : (t : ℕ) → undo-lts.Need-part-undo-end (rs t) (undo-at t) undo.Post
 undo-part-undo-end t c = search needs
 
 undo-undo-requires-2 : (t : ℕ) → undo-lts.Need-undo-requires-2 (rs t) (undo-at t) undo.Post
 undo-undo-requires-2 t c κs =
-    let s = c .before .before .before .before .before .before .before .before .before .before .before .before .before .before .before in let a = s .args in let p = c .before .before .before .before .before .before .before .before .before .before .before .column-half in (omega (arith, p .ensures .low-is, s .pre .0), undo-right 𝔽₁ (a .depth) (a .a) (a .x) (a .c) (a .t .now) (a .w .now) (s .pre .1) (p .result .half) (p .result .skip) (p .result .off) (p .result .low) (p .ensures) (c .before .before .before .before .before .before .before .uncross .last .1 .1 .1 .1 .0) (c .before .before .before .before .before .before .before .uncross .kept .1 .1 .1 .1 .0) (c .before .before .before .before .before .before .before .uncross .ensures) (c .before .before .before .undo .last .1 .1 .1 .1 .1 .0) (c .before .before .before .undo .kept .1 .1 .1 .1 .1 .0) (c .before .before .before .undo .ensures))
+    let s = c .before .before .before .before .before .before .before .before .before .before .before .before .before .before .before in let a = s .args in let p = c .before .before .before .before .before .before .before .before .before .before .before .column-half in (omega (arith, p .ensures .low-is, s .pre .0), undo-right (chosen (a .field)) (a .depth) (a .a) (a .x) (a .c) (a .t .now) (a .w .now) (s .pre .1) (p .result .half) (p .result .skip) (p .result .off) (p .result .low) (p .ensures) (c .before .before .before .before .before .before .before .uncross .last .1 .1 .1 .1 .0) (c .before .before .before .before .before .before .before .uncross .kept .1 .1 .1 .1 .0) (c .before .before .before .before .before .before .before .uncross .ensures) (c .before .before .before .undo .last .1 .1 .1 .1 .1 .0) (c .before .before .before .undo .kept .1 .1 .1 .1 .1 .0) (c .before .before .before .undo .ensures))
 
 undo-same-length-2 : (t : ℕ) → undo-lts.Need-same-length-2 (rs t) (undo-at t) undo.Post
 undo-same-length-2 t c =
-    let s = c .before .before .before .before .before .before .before .before .before .before .before .before .before .before .before .before .before .before in let a = s .args in let p = c .before .before .before .before .before .before .before .before .before .before .before .before .before .before .column-half in length-out 𝔽₁ (a .depth) (a .a) (a .x) (a .c) (a .t .now) (a .w .now) (s .pre .1) (p .result .half) (p .result .skip) (p .result .off) (p .result .low) (p .ensures) (c .before .before .before .before .before .before .before .before .before .before .uncross .last .1 .1 .1 .1 .0) (c .before .before .before .before .before .before .before .before .before .before .uncross .kept .1 .1 .1 .1 .0) (c .before .before .before .before .before .before .before .before .before .before .uncross .ensures) (c .before .before .before .before .before .before .undo .last .1 .1 .1 .1 .1 .0) (c .before .before .before .before .before .before .undo .kept .1 .1 .1 .1 .1 .0) (c .before .before .before .before .before .before .undo .ensures) (c .before .before .undo2 .last .1 .1 .1 .1 .1 .0) (c .before .before .undo2 .kept .1 .1 .1 .1 .1 .0)
+    let s = c .before .before .before .before .before .before .before .before .before .before .before .before .before .before .before .before .before .before in let a = s .args in let p = c .before .before .before .before .before .before .before .before .before .before .before .before .before .before .column-half in length-out (chosen (a .field)) (a .depth) (a .a) (a .x) (a .c) (a .t .now) (a .w .now) (s .pre .1) (p .result .half) (p .result .skip) (p .result .off) (p .result .low) (p .ensures) (c .before .before .before .before .before .before .before .before .before .before .uncross .last .1 .1 .1 .1 .0) (c .before .before .before .before .before .before .before .before .before .before .uncross .kept .1 .1 .1 .1 .0) (c .before .before .before .before .before .before .before .before .before .before .uncross .ensures) (c .before .before .before .before .before .before .undo .last .1 .1 .1 .1 .1 .0) (c .before .before .before .before .before .before .undo .kept .1 .1 .1 .1 .1 .0) (c .before .before .before .before .before .before .undo .ensures) (c .before .before .undo2 .last .1 .1 .1 .1 .1 .0) (c .before .before .undo2 .kept .1 .1 .1 .1 .1 .0)
 
 undo-returns-2 : (t : ℕ) → undo-lts.Need-returns-2 (rs t) (undo-at t) undo.Post
 undo-returns-2 t c =
-    let s = c .before .before .before .before .before .before .before .before .before .before .before .before .before .before .before .before .before .before in let a = s .args in let p = c .before .before .before .before .before .before .before .before .before .before .before .before .before .before .column-half in undone 𝔽₁ (a .depth) (a .a) (a .x) (a .c) (a .t .now) (a .w .now) (s .pre .1) (p .result .half) (p .result .skip) (p .result .off) (p .result .low) (p .ensures) (c .before .before .before .before .before .before .before .before .before .before .uncross .last .1 .1 .1 .1 .0) (c .before .before .before .before .before .before .before .before .before .before .uncross .kept .1 .1 .1 .1 .0) (c .before .before .before .before .before .before .before .before .before .before .uncross .ensures) (c .before .before .before .before .before .before .undo .last .1 .1 .1 .1 .1 .0) (c .before .before .before .before .before .before .undo .kept .1 .1 .1 .1 .1 .0) (c .before .before .before .before .before .before .undo .ensures) (c .before .before .undo2 .last .1 .1 .1 .1 .1 .0) (c .before .before .undo2 .ensures)
+    let s = c .before .before .before .before .before .before .before .before .before .before .before .before .before .before .before .before .before .before in let a = s .args in let p = c .before .before .before .before .before .before .before .before .before .before .before .before .before .before .column-half in undone (chosen (a .field)) (a .depth) (a .a) (a .x) (a .c) (a .t .now) (a .w .now) (s .pre .1) (p .result .half) (p .result .skip) (p .result .off) (p .result .low) (p .ensures) (c .before .before .before .before .before .before .before .before .before .before .uncross .last .1 .1 .1 .1 .0) (c .before .before .before .before .before .before .before .before .before .before .uncross .kept .1 .1 .1 .1 .0) (c .before .before .before .before .before .before .before .before .before .before .uncross .ensures) (c .before .before .before .before .before .before .undo .last .1 .1 .1 .1 .1 .0) (c .before .before .before .before .before .before .undo .kept .1 .1 .1 .1 .1 .0) (c .before .before .before .before .before .before .undo .ensures) (c .before .before .undo2 .last .1 .1 .1 .1 .1 .0) (c .before .before .undo2 .ensures)
 
 pub +undo-spec : {M : Type 1} → statement M
 +undo-spec = close μ-undo λ t. undo-lts.spec (rs t)

@@ -3,7 +3,7 @@ use Prim.Native.Nat.{_*_, _-_, _≤_}
 use native.Mathlib.Nat.{zero-mul}
 use native.Mathlib.Omega.{arith}
 use lib.ListN.{length, length-set}
-use Rattle.algebra.specs.Words.{𝔽₁}
+use Rattle.residue.specs.Chosen.{chosen}
 use Rattle.residue.specs.ResidueLaws.{is-low}
 use Rattle.inversion.specs.Strides.{stride-next, stride-within}
 use Rattle.undo.proofs.Uncrossing.{UncrossedTo, uncross-none, uncross-low, uncross-turn, uncross-end}
@@ -11,14 +11,14 @@ use Rattle.undo.proofs.levels.uncross.Statement.{statement}
 use Rattle.undo.proofs.levels.uncross.Tie as tie
 
 abbrev Inv-loop : tie.InvT-loop
-Inv-loop n a c t w₀ i₀ p₀ w i p = (i ≤ n) × (length w ≡ length w₀) × (p ≡ i * c) × UncrossedTo 𝔽₁ n a c t w₀ i w
+Inv-loop n a c t w₀ field i₀ p₀ w i p = (i ≤ n) × (length w ≡ length w₀) × (p ≡ i * c) × UncrossedTo (chosen field) n a c t w₀ i w
 
 abbrev μ-loop : tie.MeasureT-loop
-μ-loop n a c t w₀ i₀ p₀ w i p = n - i
+μ-loop n a c t w₀ field i₀ p₀ w i p = n - i
 
 loop-holds : tie.Need-loop-holds Inv-loop μ-loop
 loop-holds c =
-    let s = c .before .before in let a = s .args in (omega arith, refl, sym (zero-mul _), uncross-none 𝔽₁ (a .n) (a .a) (a .c) (a .t .now) (a .w .now) (s .pre))
+    let s = c .before .before in let a = s .args in (omega arith, refl, sym (zero-mul _), uncross-none (chosen (a .field)) (a .n) (a .a) (a .c) (a .t .now) (a .w .now) (s .pre))
 
 add-k : tie.Need-add-k Inv-loop μ-loop
 add-k c = omega arith
@@ -46,7 +46,7 @@ slice-read-times-gap-2 c = omega arith
 
 times-gap-requires : tie.Need-times-gap-requires Inv-loop μ-loop
 times-gap-requires c κs =
-    let s = c .before .before .before .before .before .before .before in let a = s .args in let l = c .before .before .before .before .loop in let b = s .pre .behind in let e = s .pre .within in let u = uncross-low 𝔽₁ (a .n) (a .a) (a .c) (a .t .now) (a .w .now) (s .pre) (l .i) (l .w) (omega arith) (l .inv .3) in (omega arith, omega arith, omega arith)
+    let s = c .before .before .before .before .before .before .before in let a = s .args in let l = c .before .before .before .before .loop in let b = s .pre .behind in let e = s .pre .within in let u = uncross-low (chosen (a .field)) (a .n) (a .a) (a .c) (a .t .now) (a .w .now) (s .pre) (l .i) (l .w) (omega arith) (l .inv .3) in (omega arith, omega arith, omega arith)
 
 mul-minus-product : tie.Need-mul-minus-product Inv-loop μ-loop
 mul-minus-product c =
@@ -60,13 +60,14 @@ minus-product-requires : tie.Need-minus-product-requires Inv-loop μ-loop
 minus-product-requires c κs =
     let s = c .before .before .before .before .before .before .before .before .before in
     let a = s .args in
+    let 𝓕 = chosen (a .field) in
     let l = c .before .before .before .before .before .before .loop in
     let w = stride-within (l .i) (a .c) (a .n) (omega arith) in
     let f = s .pre .diagonal in
     let g = s .pre .some in
-    let u = uncross-low 𝔽₁ (a .n) (a .a) (a .c) (a .t .now) (a .w .now) (s .pre) (l .i) (l .w) (omega arith) (l .inv .3) in
+    let u = uncross-low 𝓕 (a .n) (a .a) (a .c) (a .t .now) (a .w .now) (s .pre) (l .i) (l .w) (omega arith) (l .inv .3) in
     let first = s .pre .low .low (l .p) (omega arith) in
-    let slope = is-low 𝔽₁ _ (c .before .times-gap .ensures) in
+    let slope = is-low 𝓕 _ (c .before .times-gap .ensures) in
     (omega arith, omega arith, omega arith)
 
 mul-w : tie.Need-mul-w Inv-loop μ-loop
@@ -98,7 +99,7 @@ loop-again c =
       omega arith,
       simp length-set (omega arith),
       omega (arith, stride-next (l .i) (a .c)),
-      uncross-turn 𝔽₁ (a .n) (a .a) (a .c) (a .t .now) (a .w .now) (s .pre) (l .i) (l .w) (omega arith) (l .inv .3) (l .p) _ _ (l .inv .2) (c .before .before .times-gap .ensures) (c .minus-product .ensures),
+      uncross-turn (chosen (a .field)) (a .n) (a .a) (a .c) (a .t .now) (a .w .now) (s .pre) (l .i) (l .w) (omega arith) (l .inv .3) (l .p) _ _ (l .inv .2) (c .before .before .times-gap .ensures) (c .minus-product .ensures),
     )
 
 same-length : tie.Need-same-length Inv-loop μ-loop
@@ -106,7 +107,7 @@ same-length c = omega arith
 
 returns : tie.Need-returns Inv-loop μ-loop
 returns c =
-    let s = c .before .before .before .before in let a = s .args in let l = c .before .loop in let b = s .pre .behind in let e = s .pre .within in uncross-end 𝔽₁ (a .n) (a .a) (a .c) (a .t .now) (a .w .now) (s .pre) (l .i) (l .w) (omega arith) (l .inv .3)
+    let s = c .before .before .before .before in let a = s .args in let l = c .before .loop in let b = s .pre .behind in let e = s .pre .within in uncross-end (chosen (a .field)) (a .n) (a .a) (a .c) (a .t .now) (a .w .now) (s .pre) (l .i) (l .w) (omega arith) (l .inv .3)
 
 pub uncross-spec : {M : Type 1} → statement M
 uncross-spec =

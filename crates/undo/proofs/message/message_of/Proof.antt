@@ -1,5 +1,5 @@
-use Rattle.algebra.specs.Words.{𝔽₁}
-use Rattle.residue.specs.Residues.{el, word, inv}
+use Rattle.residue.specs.Elements.{inverseOf}
+use Rattle.residue.specs.Chosen.{chosen}
 use mathlib.Core.Path.{ap, _∙_}
 use Prim.Native.Nat.{_+_, _-_}
 use native.Mathlib.Omega.{arith}
@@ -18,11 +18,11 @@ message-len-requires c κs = c .before .before .before .before .before .before .
 
 sub-e : tie.Need-sub-e
 sub-e c =
-    let s = c .before .before .before .before .before .before .before .before .before .before in let a = s .args in some 𝔽₁ (a .depth) (a .g .now) (a .t .now) (a .t2 .now) (a .block .now) (a .work .now) (s .pre) (c .message-len .result) (c .message-len .ensures)
+    let s = c .before .before .before .before .before .before .before .before .before .before in let a = s .args in some (chosen (a .field)) (a .depth) (a .g .now) (a .t .now) (a .t2 .now) (a .block .now) (a .work .now) (s .pre) (c .message-len .result) (c .message-len .ensures)
 
 add-e : tie.Need-add-e
 add-e c =
-    let s = c .before .before .before .before .before .before .before .before .before .before in let a = s .args in omega (arith, few 𝔽₁ (a .depth) (a .g .now) (a .t .now) (a .t2 .now) (a .block .now) (a .work .now) (s .pre) (c .message-len .result) (c .message-len .ensures))
+    let s = c .before .before .before .before .before .before .before .before .before .before in let a = s .args in omega (arith, few (chosen (a .field)) (a .depth) (a .g .now) (a .t .now) (a .t2 .now) (a .block .now) (a .work .now) (s .pre) (c .message-len .result) (c .message-len .ensures))
 
 shared-slice-read-new : tie.Need-shared-slice-read-new
 shared-slice-read-new c = let s = c .before .before .before .before .before .before .before .before .before .before .before in omega (arith, s .pre .narrow)
@@ -35,15 +35,18 @@ unit-inverse-requires c κs = let s = c .before .before .before .before .before 
 
 slice-relend-prefix-undo : tie.Need-slice-relend-prefix-undo
 slice-relend-prefix-undo c =
-    let s = c .before .before .before .before .before .before .before .before .before .before .before .before .before in let a = s .args in omega (arith, some 𝔽₁ (a .depth) (a .g .now) (a .t .now) (a .t2 .now) (a .block .now) (a .work .now) (s .pre) (c .before .before .before .message-len .result) (c .before .before .before .message-len .ensures), room 𝔽₁ (a .depth) (a .g .now) (a .t .now) (a .t2 .now) (a .block .now) (a .work .now) (s .pre) (c .before .before .before .message-len .result) (c .before .before .before .message-len .ensures), c .before .before .before .before .before .before .prepare .kept .1 .1 .1 .1 .1 .0)
+    let s = c .before .before .before .before .before .before .before .before .before .before .before .before .before in let a = s .args in
+    let 𝓕 = chosen (a .field) in omega (arith, some 𝓕 (a .depth) (a .g .now) (a .t .now) (a .t2 .now) (a .block .now) (a .work .now) (s .pre) (c .before .before .before .message-len .result) (c .before .before .before .message-len .ensures), room 𝓕 (a .depth) (a .g .now) (a .t .now) (a .t2 .now) (a .block .now) (a .work .now) (s .pre) (c .before .before .before .message-len .result) (c .before .before .before .message-len .ensures), c .before .before .before .before .before .before .prepare .kept .1 .1 .1 .1 .1 .0)
 
 slice-aggregate-undo : tie.Need-slice-aggregate-undo
 slice-aggregate-undo c =
-    let s = c .before .before .before .before .before .before .before .before .before .before .before .before .before .before in let a = s .args in simp length-take (omega (arith, some 𝔽₁ (a .depth) (a .g .now) (a .t .now) (a .t2 .now) (a .block .now) (a .work .now) (s .pre) (c .before .before .before .before .message-len .result) (c .before .before .before .before .message-len .ensures), room 𝔽₁ (a .depth) (a .g .now) (a .t .now) (a .t2 .now) (a .block .now) (a .work .now) (s .pre) (c .before .before .before .before .message-len .result) (c .before .before .before .before .message-len .ensures), c .before .before .before .before .before .before .before .prepare .kept .1 .1 .1 .1 .1 .0))
+    let s = c .before .before .before .before .before .before .before .before .before .before .before .before .before .before in let a = s .args in
+    let 𝓕 = chosen (a .field) in simp length-take (omega (arith, some 𝓕 (a .depth) (a .g .now) (a .t .now) (a .t2 .now) (a .block .now) (a .work .now) (s .pre) (c .before .before .before .before .message-len .result) (c .before .before .before .before .message-len .ensures), room 𝓕 (a .depth) (a .g .now) (a .t .now) (a .t2 .now) (a .block .now) (a .work .now) (s .pre) (c .before .before .before .before .message-len .result) (c .before .before .before .before .message-len .ensures), c .before .before .before .before .before .before .before .prepare .kept .1 .1 .1 .1 .1 .0))
 
 undo-requires : tie.Need-undo-requires
 undo-requires c κs =
-    let s = c .before .before .before .before .before .before .before .before .before .before .before .before .before .before in let a = s .args in let v = c .before .before .before .before .before .before .before .prepare .last .1 .1 .1 .1 .1 .0 in let n = c .before .before .before .before .message-len .result in let en = c .before .before .before .before .message-len .ensures in let w = take (n + (n - 1)) v in let e = ap (λ k. take (k + (k - 1)) v) en ∙ c .before .before .before .before .before .before .before .prepare .ensures in undoing 𝔽₁ (a .depth) (a .g .now) (a .t .now) (a .t2 .now) (a .block .now) (length (a .work .now)) (s .pre) w e n (c .before .unit-inverse .result) en (c .before .unit-inverse .ensures ∙ (λ k. word (inv (el (c .before .before .new .ensures k)))))
+    let s = c .before .before .before .before .before .before .before .before .before .before .before .before .before .before in let a = s .args in
+    let 𝓕 = chosen (a .field) in let v = c .before .before .before .before .before .before .before .prepare .last .1 .1 .1 .1 .1 .0 in let n = c .before .before .before .before .message-len .result in let en = c .before .before .before .before .message-len .ensures in let w = take (n + (n - 1)) v in let e = ap (λ k. take (k + (k - 1)) v) en ∙ c .before .before .before .before .before .before .before .prepare .ensures in undoing 𝓕 (a .depth) (a .g .now) (a .t .now) (a .t2 .now) (a .block .now) (length (a .work .now)) (s .pre) w e n (c .before .unit-inverse .result) en (c .before .unit-inverse .ensures ∙ (λ k. inverseOf 𝓕 (c .before .before .new .ensures k)))
 
 same-length : tie.Need-same-length
 same-length c =
@@ -51,7 +54,8 @@ same-length c =
 
 returns : tie.Need-returns
 returns c =
-    let s = c .before .before .before .before .before .before .before .before .before .before .before .before .before .before .before .before .before in let a = s .args in let v = c .before .before .before .before .before .before .before .before .before .before .prepare .last .1 .1 .1 .1 .1 .0 in let n = c .before .before .before .before .before .before .before .message-len .result in let en = c .before .before .before .before .before .before .before .message-len .ensures in let w = take (n + (n - 1)) v in let e = ap (λ k. take (k + (k - 1)) v) en ∙ c .before .before .before .before .before .before .before .before .before .before .prepare .ensures in message-is 𝔽₁ (a .depth) (a .g .now) (a .t .now) (a .t2 .now) (a .block .now) (length (a .work .now)) (s .pre) w e n (c .before .before .before .before .unit-inverse .result) en (c .before .before .before .before .unit-inverse .ensures ∙ (λ k. word (inv (el (c .before .before .before .before .before .new .ensures k))))) _ _ (c .before .before .undo .kept .1 .1 .1 .1 .1 .0) (c .before .before .undo .ensures)
+    let s = c .before .before .before .before .before .before .before .before .before .before .before .before .before .before .before .before .before in let a = s .args in
+    let 𝓕 = chosen (a .field) in let v = c .before .before .before .before .before .before .before .before .before .before .prepare .last .1 .1 .1 .1 .1 .0 in let n = c .before .before .before .before .before .before .before .message-len .result in let en = c .before .before .before .before .before .before .before .message-len .ensures in let w = take (n + (n - 1)) v in let e = ap (λ k. take (k + (k - 1)) v) en ∙ c .before .before .before .before .before .before .before .before .before .before .prepare .ensures in message-is 𝓕 (a .depth) (a .g .now) (a .t .now) (a .t2 .now) (a .block .now) (length (a .work .now)) (s .pre) w e n (c .before .before .before .before .unit-inverse .result) en (c .before .before .before .before .unit-inverse .ensures ∙ (λ k. inverseOf 𝓕 (c .before .before .before .before .before .new .ensures k))) _ _ (c .before .before .undo .kept .1 .1 .1 .1 .1 .0) (c .before .before .undo .ensures)
 
 pub message-of-spec : {M : Type 1} → statement M
 message-of-spec =

@@ -1,5 +1,5 @@
 use lib.ListN.{length}
-use Rattle.algebra.specs.Words.{𝔽₁}
+use Rattle.residue.specs.Chosen.{chosen}
 use Rattle.parameters.specs.ParameterLaws.{judged-by}
 use Rattle.verify.specs.Verifying.{openedLengths, openedWords, claimWords, queriesOk, judgeVerifying}
 use Rattle.verify.proofs.Judged.{asked-after}
@@ -32,11 +32,12 @@ returns : tie.Need-returns
 unfolding judgeVerifying openedWords
 returns c =
     let a = c .before .before .before .before .before .before .before .before .before .before .before .before .before .before .before .args in
+    let 𝓕 = chosen (a .field) in
     let L = openedLengths (a .depth) (a .rate) (length (a .g .now)) (length (a .t .now)) (length (a .t2 .now)) (length (a .block .now)) (length (a .z .now)) (length (a .r .now)) (length (a .opening .now)) in
-    let W = openedWords 𝔽₁ (a .g .now) (a .t .now) (a .t2 .now) (a .block .now) (a .z .now) (a .y) (a .r .now) (a .opening .now) in
-    let X = claimWords 𝔽₁ (a .block .now) (a .z .now) (a .y) (a .r .now) (a .opening .now) in
+    let W = openedWords 𝓕 (a .g .now) (a .t .now) (a .t2 .now) (a .block .now) (a .z .now) (a .y) (a .r .now) (a .opening .now) in
+    let X = claimWords 𝓕 (a .block .now) (a .z .now) (a .y) (a .r .now) (a .opening .now) in
     asked-after (a .depth) (a .rate) (a .g .now) (a .t .now) (a .t2 .now) L W (queriesOk (a .depth) (a .rate) (a .queries .now))
-    (judged-by 𝔽₁ (a .depth) (a .rate) (a .g .now) (a .t .now) (a .t2 .now) L X (c .before .before .before .before .before .before .lengths-ok .ensures) (c .before .before .before .before .before .scan-row .ensures) (c .before .before .before .before .words-ok .ensures) (c .before .before .before .judge .ensures))
+    (judged-by 𝓕 (a .depth) (a .rate) (a .g .now) (a .t .now) (a .t2 .now) L X (c .before .before .before .before .before .before .lengths-ok .ensures) (c .before .before .before .before .before .scan-row .ensures) (c .before .before .before .before .words-ok .ensures) (c .before .before .before .judge .ensures))
     (c .before .before .queries-ok .ensures) (c .before .require .ensures) (c .then .ensures)
 
 pub judge-spec : {M : Type 1} → statement M

@@ -5,19 +5,19 @@ use native.Mathlib.Omega.{arith}
 use borrow.Author.Count.{below-more}
 use borrow.Author.Needs.{needs}
 use lib.ListN.{length}
-use Rattle.algebra.specs.Words.{𝔽₁}
 use Rattle.walks.specs.Steps.{baseAt}
-use Rattle.residue.specs.Residues.{elem}
+use Rattle.residue.specs.Elements.{elem}
+use Rattle.residue.specs.Chosen.{chosen}
 use Rattle.verdict.specs.FirstFailure.{row-fails, row-holds}
 use Rattle.walks.proofs.Bases.{base-holds, base-fails}
 use Rattle.walks.proofs.base.bases.Statement.{statement}
 use Rattle.walks.proofs.base.bases.Tie as tie
 
 abbrev Inv-loop : tie.InvT-loop
-Inv-loop v g bottom j₀ j = (j ≤ length g) × ((k : ℕ) → k < j → baseAt 𝔽₁ (elem v) g bottom k .1 ≡ true)
+Inv-loop v g bottom field j₀ j = (j ≤ length g) × ((k : ℕ) → k < j → baseAt (chosen field) (elem (chosen field) v) g bottom k .1 ≡ true)
 
 abbrev μ-loop : tie.MeasureT-loop
-μ-loop v g bottom j₀ j = length g - j
+μ-loop v g bottom field j₀ j = length g - j
 
 loop-holds : tie.Need-loop-holds Inv-loop μ-loop
 loop-holds c = (omega arith, λ k h. absurd (omega arith))
@@ -41,7 +41,7 @@ cast-place : tie.Need-cast-place Inv-loop μ-loop
 cast-place c = omega (arith, c .before .before .before .before .before .before .before .before .pre .rate)
 
 returns : tie.Need-returns Inv-loop μ-loop
-returns c = let s = c .before .before .before .before .before .before .before .before in let a = s .args in let l = c .before .before .before .before .before .loop in sym (row-fails _ _ (l .j) (l .inv .1) (search needs) (base-fails 𝔽₁ (a .v) (a .g .now) (a .bottom .now) (s .pre) (l .j) _ (search needs) (c .before .before .scaled .ensures) (c .if1 .taken)))
+returns c = let s = c .before .before .before .before .before .before .before .before in let a = s .args in let l = c .before .before .before .before .before .loop in sym (row-fails _ _ (l .j) (l .inv .1) (search needs) (base-fails (chosen (a .field)) (a .v) (a .g .now) (a .bottom .now) (s .pre) (l .j) _ (search needs) (c .before .before .scaled .ensures) (c .if1 .taken)))
 
 add-j : tie.Need-add-j Inv-loop μ-loop
 add-j c = search needs
@@ -50,7 +50,7 @@ loop-less : tie.Need-loop-less Inv-loop μ-loop
 loop-less c = search needs
 
 loop-again : tie.Need-loop-again Inv-loop μ-loop
-loop-again c = let s = c .before .before .before .before .before .before .before .before in let a = s .args in let l = c .before .before .before .before .before .loop in (search needs, below-more _ _ (l .inv .1) (base-holds 𝔽₁ (a .v) (a .g .now) (a .bottom .now) (s .pre) (l .j) _ (search needs) (c .before .before .scaled .ensures) (c .if1 .left)))
+loop-again c = let s = c .before .before .before .before .before .before .before .before in let a = s .args in let l = c .before .before .before .before .before .loop in (search needs, below-more _ _ (l .inv .1) (base-holds (chosen (a .field)) (a .v) (a .g .now) (a .bottom .now) (s .pre) (l .j) _ (search needs) (c .before .before .scaled .ensures) (c .if1 .left)))
 
 returns-2 : tie.Need-returns-2 Inv-loop μ-loop
 returns-2 c = let a = c .before .before .before .before .args in let l = c .before .loop in sym (row-holds _ _ (λ k h. l .inv .1 k (omega arith)))

@@ -2,7 +2,7 @@ use mathlib.Core.Path.{_∙_}
 use Prim.Native.Nat.{_+_}
 use native.Mathlib.Omega.{arith}
 use lib.ListN.{length}
-use Rattle.algebra.specs.Words.{𝔽₁}
+use Rattle.residue.specs.Chosen.{chosen}
 use Rattle.walks.proofs.Folded.{line-points, line-is}
 use borrow.Author.Needs.{needs}
 use Rattle.walks.proofs.folds.fold_at.Statement.{statement}
@@ -42,13 +42,13 @@ on-line-requires : tie.Need-on-line-requires
 on-line-requires c κs =
     let s = c .before .before .before .before .before .before .before .before in
     let a = s .args in
-    line-points 𝔽₁ (a .a) (a .t) (a .t2) (a .u) (a .upper .now) (a .lower .now) (s .pre) _ _ _ (c .before .before .before .before .new .ensures) (c .before .before .new2 .ensures) (c .new3 .ensures)
+    line-points (chosen (a .field)) (a .a) (a .t) (a .t2) (a .u) (a .upper .now) (a .lower .now) (s .pre) _ _ _ (c .before .before .before .before .new .ensures) (c .before .before .new2 .ensures) (c .new3 .ensures)
 
 returns : tie.Need-returns
 returns c =
     let s = c .before .before .before .before .before .before .before .before .before in
     let a = s .args in
-    c .on-line .ensures ∙ line-is 𝔽₁ (a .a) (a .t) (a .t2) (a .u) (a .upper .now) (a .lower .now) (s .pre) _ _ _ (c .before .before .before .before .before .new .ensures) (c .before .before .before .new2 .ensures) (c .before .new3 .ensures)
+    c .on-line .ensures ∙ line-is (chosen (a .field)) (a .a) (a .t) (a .t2) (a .u) (a .upper .now) (a .lower .now) (s .pre) _ _ _ (c .before .before .before .before .before .new .ensures) (c .before .before .before .new2 .ensures) (c .before .new3 .ensures)
 
 pub fold-at-spec : {M : Type 1} → statement M
 fold-at-spec =

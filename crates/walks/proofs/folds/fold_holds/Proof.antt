@@ -1,6 +1,6 @@
 use mathlib.Core.Path.{_∙_}
 use native.Mathlib.Omega.{arith}
-use Rattle.algebra.specs.Words.{𝔽₁}
+use Rattle.residue.specs.Chosen.{chosen}
 use Rattle.walks.proofs.Folded.{read-within, first-low, second-low, challenge-low, read-folding, read-fold}
 use borrow.Author.Needs.{needs}
 use Rattle.walks.proofs.folds.fold_holds.Statement.{statement}
@@ -25,7 +25,7 @@ add-at : tie.Need-add-at
 add-at c =
     let s = c .before .before .before .before .before .before .before .before .before in
     let a = s .args in
-    omega (arith, read-within 𝔽₁ (a .depth) (a .g .now) (a .t .now) (a .t2 .now) (a .block .now) (a .r .now) (a .opening .now) (s .pre .0) (a .level) (a .u) (s .pre .1) (s .pre .2) (c .diagonals-len .ensures) (a .t .now) (s .pre .0 .coding .first))
+    omega (arith, read-within (chosen (a .field)) (a .depth) (a .g .now) (a .t .now) (a .t2 .now) (a .block .now) (a .r .now) (a .opening .now) (s .pre .0) (a .level) (a .u) (s .pre .1) (s .pre .2) (c .diagonals-len .ensures) (a .t .now) (s .pre .0 .coding .first))
 
 mul-new : tie.Need-mul-new
 mul-new c = search needs
@@ -37,50 +37,50 @@ new-requires : tie.Need-new-requires
 new-requires c κs =
     let s = c .before .before .before .before .before .before .before .before .before .before in
     let a = s .args in
-    challenge-low 𝔽₁ (a .depth) (a .g .now) (a .t .now) (a .t2 .now) (a .block .now) (a .r .now) (a .opening .now) (s .pre .0) (a .level) (a .u) (s .pre .1) (s .pre .2)
+    challenge-low (chosen (a .field)) (a .depth) (a .g .now) (a .t .now) (a .t2 .now) (a .block .now) (a .r .now) (a .opening .now) (s .pre .0) (a .level) (a .u) (s .pre .1) (s .pre .2)
 
 mul-new-2 : tie.Need-mul-new-2
 mul-new-2 c =
     let s = c .before .before .before .before .before .before .before .before .before .before .before in
     let a = s .args in
-    omega (arith, read-within 𝔽₁ (a .depth) (a .g .now) (a .t .now) (a .t2 .now) (a .block .now) (a .r .now) (a .opening .now) (s .pre .0) (a .level) (a .u) (s .pre .1) (s .pre .2) (c .before .before .diagonals-len .ensures) (a .t .now) (s .pre .0 .coding .first))
+    omega (arith, read-within (chosen (a .field)) (a .depth) (a .g .now) (a .t .now) (a .t2 .now) (a .block .now) (a .r .now) (a .opening .now) (s .pre .0) (a .level) (a .u) (s .pre .1) (s .pre .2) (c .before .before .diagonals-len .ensures) (a .t .now) (s .pre .0 .coding .first))
 
 shared-slice-read-new-2 : tie.Need-shared-slice-read-new-2
 shared-slice-read-new-2 c =
     let s = c .before .before .before .before .before .before .before .before .before .before .before .before in
     let a = s .args in
-    read-within 𝔽₁ (a .depth) (a .g .now) (a .t .now) (a .t2 .now) (a .block .now) (a .r .now) (a .opening .now) (s .pre .0) (a .level) (a .u) (s .pre .1) (s .pre .2) (c .before .before .before .diagonals-len .ensures) (a .t .now) (s .pre .0 .coding .first)
+    read-within (chosen (a .field)) (a .depth) (a .g .now) (a .t .now) (a .t2 .now) (a .block .now) (a .r .now) (a .opening .now) (s .pre .0) (a .level) (a .u) (s .pre .1) (s .pre .2) (c .before .before .before .diagonals-len .ensures) (a .t .now) (s .pre .0 .coding .first)
 
 new-requires-2 : tie.Need-new-requires-2
 new-requires-2 c κs =
     let s = c .before .before .before .before .before .before .before .before .before .before .before .before in
     let a = s .args in
-    first-low 𝔽₁ (a .depth) (a .g .now) (a .t .now) (a .t2 .now) (a .block .now) (a .r .now) (a .opening .now) (s .pre .0) (a .level) (a .u) (s .pre .1) (s .pre .2) (c .before .before .before .diagonals-len .ensures)
+    first-low (chosen (a .field)) (a .depth) (a .g .now) (a .t .now) (a .t2 .now) (a .block .now) (a .r .now) (a .opening .now) (s .pre .0) (a .level) (a .u) (s .pre .1) (s .pre .2) (c .before .before .before .diagonals-len .ensures)
 
 mul-new-3 : tie.Need-mul-new-3
 mul-new-3 c =
     let s = c .before .before .before .before .before .before .before .before .before .before .before .before .before in
     let a = s .args in
-    omega (arith, read-within 𝔽₁ (a .depth) (a .g .now) (a .t .now) (a .t2 .now) (a .block .now) (a .r .now) (a .opening .now) (s .pre .0) (a .level) (a .u) (s .pre .1) (s .pre .2) (c .before .before .before .before .diagonals-len .ensures) (a .t2 .now) (s .pre .0 .coding .second))
+    omega (arith, read-within (chosen (a .field)) (a .depth) (a .g .now) (a .t .now) (a .t2 .now) (a .block .now) (a .r .now) (a .opening .now) (s .pre .0) (a .level) (a .u) (s .pre .1) (s .pre .2) (c .before .before .before .before .diagonals-len .ensures) (a .t2 .now) (s .pre .0 .coding .second))
 
 shared-slice-read-new-3 : tie.Need-shared-slice-read-new-3
 shared-slice-read-new-3 c =
     let s = c .before .before .before .before .before .before .before .before .before .before .before .before .before .before in
     let a = s .args in
-    read-within 𝔽₁ (a .depth) (a .g .now) (a .t .now) (a .t2 .now) (a .block .now) (a .r .now) (a .opening .now) (s .pre .0) (a .level) (a .u) (s .pre .1) (s .pre .2) (c .before .before .before .before .before .diagonals-len .ensures) (a .t2 .now) (s .pre .0 .coding .second)
+    read-within (chosen (a .field)) (a .depth) (a .g .now) (a .t .now) (a .t2 .now) (a .block .now) (a .r .now) (a .opening .now) (s .pre .0) (a .level) (a .u) (s .pre .1) (s .pre .2) (c .before .before .before .before .before .diagonals-len .ensures) (a .t2 .now) (s .pre .0 .coding .second)
 
 new-requires-3 : tie.Need-new-requires-3
 new-requires-3 c κs =
     let s = c .before .before .before .before .before .before .before .before .before .before .before .before .before .before in
     let a = s .args in
-    second-low 𝔽₁ (a .depth) (a .g .now) (a .t .now) (a .t2 .now) (a .block .now) (a .r .now) (a .opening .now) (s .pre .0) (a .level) (a .u) (s .pre .1) (s .pre .2) (c .before .before .before .before .before .diagonals-len .ensures)
+    second-low (chosen (a .field)) (a .depth) (a .g .now) (a .t .now) (a .t2 .now) (a .block .now) (a .r .now) (a .opening .now) (s .pre .0) (a .level) (a .u) (s .pre .1) (s .pre .2) (c .before .before .before .before .before .diagonals-len .ensures)
 
 fold-at-requires : tie.Need-fold-at-requires
 fold-at-requires c κs =
     let s = c .before .before .before .before .before .before .before .before .before .before .before .before .before .before .before in
     let a = s .args in
     let n = c .before .before .before .before .before .before in
-    read-folding 𝔽₁ (a .depth) (a .g .now) (a .t .now) (a .t2 .now) (a .block .now) (a .r .now) (a .opening .now) (s .pre .0) (a .level) (a .u) (s .pre .1) (s .pre .2) _ _ _ (n .diagonals-len .ensures) (n .before .before .level-block .ensures) (n .before .level-block2 .ensures) _ _ _ (c .before .before .before .before .new .ensures) (c .before .before .new2 .ensures) (c .new3 .ensures)
+    read-folding (chosen (a .field)) (a .depth) (a .g .now) (a .t .now) (a .t2 .now) (a .block .now) (a .r .now) (a .opening .now) (s .pre .0) (a .level) (a .u) (s .pre .1) (s .pre .2) _ _ _ (n .diagonals-len .ensures) (n .before .before .level-block .ensures) (n .before .level-block2 .ensures) _ _ _ (c .before .before .before .before .new .ensures) (c .before .before .new2 .ensures) (c .new3 .ensures)
 
 returns : tie.Need-returns
 returns c =
@@ -88,7 +88,7 @@ returns c =
     let a = s .args in
     let n = c .before .before .before .before .before .before .before in
     c .fold-at .ensures
-    ∙ read-fold 𝔽₁ (a .depth) (a .g .now) (a .t .now) (a .t2 .now) (a .block .now) (a .r .now) (a .opening .now) (s .pre .0) (a .level) (a .u) (s .pre .1) (s .pre .2) _ _ _ (n .diagonals-len .ensures) (n .before .before .level-block .ensures) (n .before .level-block2 .ensures) _ _ _ (c .before .before .before .before .before .new .ensures) (c .before .before .before .new2 .ensures) (c .before .new3 .ensures)
+    ∙ read-fold (chosen (a .field)) (a .depth) (a .g .now) (a .t .now) (a .t2 .now) (a .block .now) (a .r .now) (a .opening .now) (s .pre .0) (a .level) (a .u) (s .pre .1) (s .pre .2) _ _ _ (n .diagonals-len .ensures) (n .before .before .level-block .ensures) (n .before .level-block2 .ensures) _ _ _ (c .before .before .before .before .before .new .ensures) (c .before .before .before .new2 .ensures) (c .before .new3 .ensures)
 
 pub fold-holds-spec : {M : Type 1} → statement M
 fold-holds-spec =

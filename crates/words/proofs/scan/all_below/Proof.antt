@@ -1,51 +1,17 @@
-use mathlib.Core.Path.{_≡_, refl}
-use Prim.Native.Nat.{_-_, _≤_}
-use native.Mathlib.Omega.{arith}
+use mathlib.Core.Path.{ap, _∙_}
+use Rattle.words.specs.Scans.{allUnder}
 use borrow.Author.Needs.{needs}
-use lib.Dec.{ltb}
-use lib.ListN.{length, take}
-use Rattle.algebra.specs.Tests.{all, all-none, all-turn, all-end}
-use Rattle.residue.specs.Residues.{P}
 use Rattle.words.proofs.scan.all_below.Statement.{statement}
 use Rattle.words.proofs.scan.all_below.Tie as tie
 
-abbrev Inv-loop : tie.InvT-loop
-Inv-loop s ok₀ i₀ ok i = (i ≤ length s) × (ok ≡ all (λ x. ltb x P) (take i s))
+modulus-requires : tie.Need-modulus-requires
+modulus-requires c κs = search needs
 
-abbrev μ-loop : tie.MeasureT-loop
-μ-loop s ok₀ i₀ ok i = length s - i
+all-under-requires : tie.Need-all-under-requires
+all-under-requires c κs = search needs
 
-loop-holds : tie.Need-loop-holds Inv-loop μ-loop
-loop-holds c = (omega arith, all-none (λ x. ltb x P) (c .args .s .now))
-
-mul-ok : tie.Need-mul-ok Inv-loop μ-loop
-mul-ok c = search needs
-
-shared-slice-read-ok : tie.Need-shared-slice-read-ok Inv-loop μ-loop
-shared-slice-read-ok c = search needs
-
-add-i : tie.Need-add-i Inv-loop μ-loop
-add-i c = search needs
-
-loop-less : tie.Need-loop-less Inv-loop μ-loop
-loop-less c = search needs
-
-loop-again : tie.Need-loop-again Inv-loop μ-loop
-loop-again c = let l = c .before .before .loop in (omega arith, all-turn (λ x. ltb x P) (l .i) (c .before .before .before .args .s .now) 0 (search needs) (l .inv .1) refl)
-
-returns : tie.Need-returns Inv-loop μ-loop
-returns c = let l = c .before .loop in all-end (λ x. ltb x P) (l .i) (c .before .before .args .s .now) (omega arith) (l .inv .1)
+returns : tie.Need-returns
+returns c = let m = c .before in c .all-under .ensures ∙ ap (λ p. allUnder p (m .before .before .args .s .now)) (m .modulus .ensures)
 
 pub all-below-spec : {M : Type 1} → statement M
-all-below-spec =
-    tie.close
-    (tie.spec
-    Inv-loop
-    μ-loop
-    loop-holds
-    mul-ok
-    shared-slice-read-ok
-    add-i
-    loop-less
-    loop-again
-    returns)
+all-below-spec = tie.close (tie.spec modulus-requires all-under-requires returns)

@@ -6,15 +6,14 @@ use lib.Dec.{leb, ltb}
 use borrow.Author.Tests.{le-leb, lt-leb, le-ltb, lt-ltb}
 use Rattle.algebra.specs.Order.{lt-or-ge}
 use Rattle.algebra.specs.Tests.{not-or}
-use Rattle.residue.specs.Residues.{P}
 use Rattle.words.proofs.scan.either_high.Statement.{statement}
 use Rattle.words.proofs.scan.either_high.Tie as tie
 
-not-high : (x : ℕ) → not (leb P x) ≡ ltb x P
-not-high x = ⊎-elim (λ h. ap not (lt-leb P x h) ∙ sym (lt-ltb x P h)) (λ h. ap not (le-leb P x h) ∙ sym (le-ltb x P h)) (lt-or-ge x P)
+not-high : (p x : ℕ) → not (leb p x) ≡ ltb x p
+not-high p x = ⊎-elim (λ h. ap not (lt-leb p x h) ∙ sym (lt-ltb x p h)) (λ h. ap not (le-leb p x h) ∙ sym (le-ltb x p h)) (lt-or-ge x p)
 
 returns : tie.Need-returns
-returns c = not-or (leb P (c .args .x)) (leb P (c .args .y)) ∙ ap₂ _&&_ (not-high (c .args .x)) (not-high (c .args .y))
+returns c = let a = c .args in not-or (leb (a .p) (a .x)) (leb (a .p) (a .y)) ∙ ap₂ _&&_ (not-high (a .p) (a .x)) (not-high (a .p) (a .y))
 
 pub either-high-spec : {M : Type 1} → statement M
 either-high-spec = tie.close (tie.spec returns)

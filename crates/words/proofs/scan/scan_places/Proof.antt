@@ -5,21 +5,19 @@ use native.Mathlib.Omega.{arith}
 use borrow.Author.Needs.{needs}
 use lib.Dec.{ltb, eqb}
 use lib.ListN.{take}
-use Rattle.algebra.specs.Words.{𝔽₁}
 use Rattle.algebra.specs.Tests.{not-or, all₂-none, all₂-turn}
-use Rattle.residue.specs.Residues.{P}
 use Rattle.words.specs.Scans.{PlacesScanned}
 use Rattle.words.proofs.scan.scan_places.Statement.{statement}
 use Rattle.words.proofs.scan.scan_places.Tie as tie
 
 abbrev Inv-loop : tie.InvT-loop
-Inv-loop n s t high₀ equal₀ j₀ high equal j = (j ≤ n) × PlacesScanned 𝔽₁ (take j s) (take j t) (not high) (not equal)
+Inv-loop n s t p high₀ equal₀ j₀ high equal j = (j ≤ n) × PlacesScanned p (take j s) (take j t) (not high) (not equal)
 
 abbrev μ-loop : tie.MeasureT-loop
-μ-loop n s t high₀ equal₀ j₀ high equal j = n - j
+μ-loop n s t p high₀ equal₀ j₀ high equal j = n - j
 
 loop-holds : tie.Need-loop-holds Inv-loop μ-loop
-loop-holds c = let a = c .before .before .args in (omega arith, record { below-is = all₂-none (λ x y. ltb x P && ltb y P) (a .s .now) (a .t .now); apart-is = all₂-none (λ x y. not (eqb x y)) (a .s .now) (a .t .now) })
+loop-holds c = let a = c .before .before .args in (omega arith, record { below-is = all₂-none (λ x y. ltb x (a .p) && ltb y (a .p)) (a .s .now) (a .t .now); apart-is = all₂-none (λ x y. not (eqb x y)) (a .s .now) (a .t .now) })
 
 mul-x : tie.Need-mul-x Inv-loop μ-loop
 mul-x c = search needs
@@ -49,7 +47,7 @@ loop-again c =
     let scanned = l .inv .1 in (
       omega arith,
       record {
-        below-is = not-or (l .high) _ ∙ all₂-turn (λ x y. ltb x P && ltb y P) (l .j) (a .s .now) (a .t .now) 0 (omega arith) (omega arith) (scanned .below-is) (c .either-high .ensures);
+        below-is = not-or (l .high) _ ∙ all₂-turn (λ x y. ltb x (a .p) && ltb y (a .p)) (l .j) (a .s .now) (a .t .now) 0 (omega arith) (omega arith) (scanned .below-is) (c .either-high .ensures);
         apart-is = not-or (l .equal) _ ∙ all₂-turn (λ x y. not (eqb x y)) (l .j) (a .s .now) (a .t .now) 0 (omega arith) (omega arith) (scanned .apart-is) refl;
       },
     )
