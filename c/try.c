@@ -200,6 +200,16 @@ static void verify(const char *what, code c, list block, list z, uint32_t y, lis
     end(tv_verify_opening(c.depth, c.rate, W(g), W(t), W(t2), W(b), W(point), y, W(challenges), W(q), W(o)), due);
 }
 
+static uint32_t many[4][TV_BLOCK_LEN(17, 2)];
+
+/* The first words of a list of one word. */
+static list repeated(size_t place, uint32_t word, size_t length)
+{
+    for (size_t i = 0; i < length; i++)
+        many[place][i] = word;
+    return (list){many[place], length};
+}
+
 static void clearances(void)
 {
     reading("residue 0 is contact", 0, 0, TV_CONTACT, 0);
@@ -283,6 +293,26 @@ static void openings(void)
     verify("depth 0, 9 claimed", depth_0(), LIST(9, 9), NONE, 9, NONE, NONE, LIST(9), DONE);
     verify("depth 0, 8 claimed", depth_0(), LIST(9, 9), NONE, 8, NONE, NONE, LIST(9), NUMBER(21));
     verify("depth 0, a query", depth_0(), LIST(9, 9), NONE, 9, NONE, LIST(0), LIST(9), NUMBER(7));
+    verify("depth 0, two queries 0", depth_0(), LIST(9, 9), NONE, 9, NONE, LIST(0, 0), LIST(9), NUMBER(7));
+}
+
+/* A place that repeats is 11, where none of 1 to 7 is due, and before any check. */
+static void repeats(void)
+{
+    code c = depth_1(), zero = c;
+    list block = OF(block_1), z = LIST(3), r = LIST(4), o = OF(opening_3);
+    verify("queries 0 0", c, block, z, 26, r, LIST(0, 0), o, NUMBER(11));
+    verify("queries 1 0 1, more than there are places", c, block, z, 26, r, LIST(1, 0, 1), o, NUMBER(11));
+    verify("27 claimed, queries 1 1", c, block, z, 27, r, LIST(1, 1), o, NUMBER(11));
+    verify("another final value, queries 0 1 1", c, block, z, 26, r, LIST(0, 1, 1), LIST(P - 10, 36, 152, 34, 33, 33), NUMBER(11));
+    verify("queries 0 0 2: one is too large", c, block, z, 26, r, LIST(0, 0, 2), o, NUMBER(7));
+    verify("queries 2 0 0", c, block, z, 26, r, LIST(2, 0, 0), o, NUMBER(7));
+    verify("queries 2 2", c, block, z, 26, r, LIST(2, 2), o, NUMBER(7));
+    verify("query 1, 256 times", c, block, z, 26, r, repeated(3, 1, 256), o, NUMBER(11));
+    verify("query 1, 257 times", c, block, z, 26, r, repeated(3, 1, 257), o, NUMBER(7));
+    verify("queries 0 0, block word 2147483647", c, LIST(19, 26, P - 9, P), z, 26, r, LIST(0, 0), o, NUMBER(4));
+    zero.g = LIST(1, 0);
+    verify("queries 0 0, a zero in the row", zero, block, z, 26, r, LIST(0, 0), o, NUMBER(5));
 }
 
 /* At depth 2 query 2 goes on at place 0 of level 1. By hand: f is 5 + 7 X_0 + 11 X_1 + 13 X_0 X_1; round 2 is (26 + 50 X)(7 X - 3), round 1
@@ -299,17 +329,35 @@ static void second_half(void)
     verify("226 claimed, query 2", c, block, z, 226, r, LIST(2), good, DONE);
     verify("place 0 of block 1 wrong, query 3", c, block, z, 226, r, LIST(3), wrong, DONE);
     verify("queries 3 2: fold of query 1 to level 0", c, block, z, 226, r, LIST(3, 2), wrong, (tv_answer){23, 1, 0});
-    verify("queries 3 3 0: fold of query 2 to level 1", c, block, z, 226, r, LIST(3, 3, 0), wrong, (tv_answer){23, 2, 1});
+    verify("queries 3 1 0: fold of query 2 to level 1", c, block, z, 226, r, LIST(3, 1, 0), wrong, (tv_answer){23, 2, 1});
+    verify("queries 3 3 0: refused before that", c, block, z, 226, r, LIST(3, 3, 0), wrong, NUMBER(11));
 }
 
-static uint32_t many[4][TV_BLOCK_LEN(17, 2)];
-
-/* The first words of a list of one word. */
-static list repeated(size_t place, uint32_t word, size_t length)
+/* Lists of several lengths at depth 8, where there are 256 places; then with the last place like the first. The message is 9 0 0 .., all
+ * blocks are of nines, and at the point 0 by the challenges 0 each round is 9 - 9 X. */
+static void lists(void)
 {
-    for (size_t i = 0; i < length; i++)
-        many[place][i] = word;
-    return (list){many[place], length};
+    static const size_t lengths[] = {1, 2, 3, 4, 5, 7, 8, 9, 16, 17, 18, 19, 33, 64, 255, 256, 257};
+    const size_t l = TV_DIAGONALS_LEN(8, 2), opening_len = TV_OPENING_LEN(8, 2);
+    code c = {8, 2, OF(row), repeated(0, 2, l), repeated(1, 3, l)};
+    list block = repeated(2, 9, TV_BLOCK_LEN(8, 2)), opening = repeated(3, 9, opening_len);
+    for (size_t i = 0; i < 8; i++)
+        many[3][3 * i + 1] = 0, many[3][3 * i + 2] = P - 9;
+    uint32_t queries[257];
+    for (uint32_t i = 0; i < 257; i++)
+        queries[i] = i * 77 % 256;
+    for (size_t k = 0; k < sizeof lengths / sizeof *lengths; k++) {
+        const size_t length = lengths[k], last = length - 1;
+        char what[64];
+        snprintf(what, sizeof what, "%zu queries at depth 8", length);
+        verify(what, c, block, ZEROS(8), 9, ZEROS(8), (list){queries, length}, opening, length <= 256 ? DONE : NUMBER(7));
+        if (length == 1 || length == 257)
+            continue;
+        const uint32_t kept = queries[last];
+        queries[last] = queries[0];
+        verify("the last like the first", c, block, ZEROS(8), 9, ZEROS(8), (list){queries, length}, opening, NUMBER(11));
+        queries[last] = kept;
+    }
 }
 
 /* Depth 17. The message 9 0 0 .. is the polynomial 9: so are all its values, the entries of its table and the words of its codeword. */
@@ -332,7 +380,9 @@ int main(void)
     clearances();
     codewords();
     openings();
+    repeats();
     second_half();
+    lists();
     deep();
     printf("%d differences\n", differences);
     return differences > 0;

@@ -42,7 +42,7 @@ int main()
             return 1;
     }
     /* Every number that is listed has a text of its own, and no other number is taken for success. */
-    const uint32_t listed[] = {0, 1, 2, 3, 4, 5, 6, 7, 8, 9, 20, 21, 22, 23, 24};
+    const uint32_t listed[] = {0, 1, 2, 3, 4, 5, 6, 7, 8, 9, 11, 20, 21, 22, 23, 24};
     for (const uint32_t a : listed)
         for (const uint32_t b : listed)
             if (a < b && std::strcmp(tv_number_text(a), tv_number_text(b)) == 0)

@@ -25,9 +25,9 @@
  * when declarations and answers stay, MINOR when some are added, MAJOR when one changes or goes. As long as MAJOR is 0, MINOR moves for
  * changes too. A program and its archive have MAJOR and MINOR in common. */
 #define TV_VERSION_MAJOR 0
-#define TV_VERSION_MINOR 3
+#define TV_VERSION_MINOR 4
 #define TV_VERSION_PATCH 0
-#define TV_VERSION "0.3.0"
+#define TV_VERSION "0.4.0"
 
 /* Limits. */
 #define TV_MODULUS 2147483647u
@@ -52,6 +52,7 @@
 #define TV_REFUSED_QUERIES 7u      /* the query list is too short or too long, or a place in it is too large */
 #define TV_REFUSED_NO_CODEWORD 8u  /* decoding: a well-formed block is no codeword */
 #define TV_REFUSED_CLEARANCE 9u    /* a clearance outside -TV_MAX_CLEARANCE to TV_MAX_CLEARANCE */
+#define TV_REFUSED_REPEATED 11u    /* a place stands in the query list more than once */
 #define TV_FAILED_SUM 20u          /* verifying: sum check i fails; first is i */
 #define TV_FAILED_FINAL 21u        /* verifying: the final check fails */
 #define TV_FAILED_BASE 22u         /* verifying: base check j fails; first is j */
@@ -137,7 +138,8 @@ TV_MUST_USE tv_answer tv_write_opening(uint32_t depth, uint32_t rate, const uint
                                        size_t opening_len, uint32_t *work, size_t work_len, uint32_t *value);
 
 /* Reads g (rate), t (l), t2 (l), block (n: the commitment), z (depth), y (the value claimed at z), r (depth), queries (1 to TV_MAX_QUERIES
- * places below TV_BLOCK_LEN(depth - 1, rate), repeated or not; at depth 0 none), opening (TV_OPENING_LEN(depth, rate)). */
+ * places below TV_BLOCK_LEN(depth - 1, rate), each different from all others; at depth 0 none), opening (TV_OPENING_LEN(depth, rate)). A
+ * list with a place too large is answered 7, whatever repeats in it; a list with a repeated place 11, before any check of the opening. */
 TV_MUST_USE tv_answer tv_verify_opening(uint32_t depth, uint32_t rate, const uint32_t *g, size_t g_len, const uint32_t *t, size_t t_len,
                                         const uint32_t *t2, size_t t2_len, const uint32_t *block, size_t block_len, const uint32_t *z,
                                         size_t z_len, uint32_t y, const uint32_t *r, size_t r_len, const uint32_t *queries,
@@ -157,6 +159,7 @@ static inline const char *tv_number_text(uint32_t number)
     case TV_REFUSED_QUERIES: return "refused: the query list is too short or too long, or a place in it is too large";
     case TV_REFUSED_NO_CODEWORD: return "refused: the block is no codeword";
     case TV_REFUSED_CLEARANCE: return "refused: a clearance is out of range";
+    case TV_REFUSED_REPEATED: return "refused: a place stands in the query list more than once";
     case TV_FAILED_SUM: return "rejected: a round does not sum to the value claimed before it";
     case TV_FAILED_FINAL: return "rejected: the final value does not fit the last claim";
     case TV_FAILED_BASE: return "rejected: the lowest block does not fit the final value";

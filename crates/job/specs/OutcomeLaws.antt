@@ -5,10 +5,10 @@ use mathlib.Core.List.{List}
 use Prim.Native.Nat.{ℕ, zero, suc}
 use native.Mathlib.Omega.{arith}
 use Rattle.job.specs.declared.Refusal.{Refusal}
-use Rattle.job.specs.declared.Refusal.the-variants.{Depth, Rate, Length, Word, BaseRow, Diagonals, Queries, NoCodeword, Clearance}
+use Rattle.job.specs.declared.Refusal.the-variants.{Depth, Rate, Length, Word, BaseRow, Diagonals, Queries, NoCodeword, Clearance, Repeated}
 use Rattle.job.specs.declared.Answer.{Answer}
 use Rattle.job.specs.declared.Answer.the-variants.{Done, Refused}
-use Rattle.job.specs.Outcome.{Numbers, Outcome, refused, done, outcome, require, _⨾_, kept}
+use Rattle.job.specs.Outcome.{Numbers, Outcome, refused, done, number, outcome, require, _⨾_, kept}
 
 -- what the first outcome decides of two
 pub after-refused : {A B : Type 0} {o : Outcome A} (next : Outcome B) {n : Numbers} → refused n ≡ o → refused n ≡ o ⨾ next
@@ -81,6 +81,19 @@ pub after-number : {A B : Type 0} (Q : ℕ → Type 0) (o : Outcome A) {next : O
 after-number Q (refused k) f g e = f (same-refusal e)
 after-number Q (done a) f g e = g e
 
+-- no refusal has the number 0
+pub number-positive : (r : Refusal) → number r ≡ 0 → ⊥
+number-positive Depth e = omega arith
+number-positive Rate e = omega arith
+number-positive Length e = omega arith
+number-positive Word e = omega arith
+number-positive BaseRow e = omega arith
+number-positive Diagonals e = omega arith
+number-positive Queries e = omega arith
+number-positive NoCodeword e = omega arith
+number-positive Clearance e = omega arith
+number-positive Repeated e = omega arith
+
 -- an answer is determined by its outcome
 abbrev ofNumber : ℕ → Refusal
 ofNumber zero = Depth
@@ -92,7 +105,8 @@ ofNumber (suc (suc (suc (suc (suc zero))))) = BaseRow
 ofNumber (suc (suc (suc (suc (suc (suc zero)))))) = Diagonals
 ofNumber (suc (suc (suc (suc (suc (suc (suc zero))))))) = Queries
 ofNumber (suc (suc (suc (suc (suc (suc (suc (suc zero)))))))) = NoCodeword
-ofNumber (suc (suc (suc (suc (suc (suc (suc (suc (suc n))))))))) = Clearance
+ofNumber (suc (suc (suc (suc (suc (suc (suc (suc (suc zero))))))))) = Clearance
+ofNumber (suc (suc (suc (suc (suc (suc (suc (suc (suc (suc n)))))))))) = Repeated
 
 abbrev ofOutcome : Outcome (Unit {0}) → Answer
 ofOutcome (refused n) = Refused (ofNumber (n .0))
@@ -109,6 +123,7 @@ of-outcome (Refused Diagonals) = refl
 of-outcome (Refused Queries) = refl
 of-outcome (Refused NoCodeword) = refl
 of-outcome (Refused Clearance) = refl
+of-outcome (Refused Repeated) = refl
 
 pub same-answer : (r r' : Answer) → outcome r ≡ outcome r' → r ≡ r'
 same-answer r r' e = sym (of-outcome r) ∙ ap ofOutcome e ∙ of-outcome r'

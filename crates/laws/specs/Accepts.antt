@@ -32,19 +32,21 @@ use Rattle.basefold.specs.Equations.{placeAt, claim, Equations}
 use Rattle.basefold.specs.Honest.{Queries}
 use Rattle.basefold.specs.Accepts.{none-fails-exactly}
 use Rattle.job.specs.Outcome.{Numbers, Outcome, refused, done, _⨾_}
-use Rattle.job.specs.OutcomeLaws.{require-done, held, both, require-number, after-number}
+use Rattle.job.specs.OutcomeLaws.{require-done, both, after-number}
 use Rattle.job.specs.Limits.{blockSize}
 use Rattle.parameters.specs.Lent.{lent, diagonal}
 use Rattle.parameters.specs.Parameters.{limits, rowLengths, judgeRow}
 use Rattle.parameters.specs.ParameterLaws.{row-lengths, judge-number}
 use Rattle.verdict.specs.Verdicts.{checkNumbers, numbersOf}
-use Rattle.verify.specs.Verifying.{openedLengths, openedWords, queriesOk, judgeVerifying, verification}
+use Rattle.queries.specs.Queries.{queriesOk}
+use Rattle.queries.specs.QueryLaws.{queries-legal, queries-number}
+use Rattle.verify.specs.Verifying.{openedLengths, openedWords, judgeVerifying, verification}
 use Rattle.laws.specs.Openings.{legal-queries}
 use Rattle.laws.specs.Equations.{sentElement, finalElement, blockElement, claimed, Accepts}
 
--- the refusals of the verifier are 1 to 7
+-- the refusals of the verifier are above 0 and below the numbers of checks
 abbrev Number : ℕ → Type 0
-Number n = (1 ≤ n) × (n ≤ 7)
+Number n = (1 ≤ n) × (n ≤ 11)
 
 -- the check with a number and its places
 abbrev checkOf : Numbers → Check
@@ -56,7 +58,7 @@ check-numbers finalCheck = refl
 check-numbers (baseCheck j) = refl
 check-numbers (foldCheck q i) = refl
 
-check-least : (c : Check) → 20 ≤ checkNumbers c .0
+pub check-least : (c : Check) → 20 ≤ checkNumbers c .0
 check-least (sumCheck i) = omega arith
 check-least finalCheck = omega arith
 check-least (baseCheck j) = omega arith
@@ -90,7 +92,7 @@ module _ (𝓕 : PrimeField) where
     unfolding judgeVerifying
     refusals n =
         after-number Number (judgeRow d c g t t' lengths words) (judge-number Number (λ k lo hi. (lo, omega arith)) d c g t t' lengths words)
-        (require-number Number (queriesOk d c us) 7 (omega arith, omega arith))
+        (queries-number Number (omega arith, omega arith) (omega arith, omega arith) d c us)
       where
         lengths : Bool
         lengths = openedLengths d c (length g) (length t) (length t') (length w) (length z) (length r) (length o)
@@ -109,7 +111,7 @@ module _ (𝓕 : PrimeField) where
         let l₂ = and-both (eqb (length w) (blockSize c d)) _ (l .1) in
         let l₃ = and-both (eqb (length z) d) _ (l₂ .1) in
         let l₄ = and-both (eqb (length r) d) _ (l₃ .1) in
-        (row-lengths d c (length g) (length t) (length t') (l .0) .row, eqb-true _ _ (l₄ .0), eqb-true _ _ (l₄ .1), held (queriesOk d c us) 7 (j .1))
+        (row-lengths d c (length g) (length t) (length t') (l .0) .row, eqb-true _ _ (l₄ .0), eqb-true _ _ (l₄ .1), queries-legal d c us (j .1) .0)
 
     module _ (rate : length g ≡ c) (challenges : length r ≡ d) (long : length o ≡ openingSize c 0 d) where
       depth : length (elements 𝓕 r) ≡ d

@@ -1,6 +1,5 @@
 -- Encoding, writing and verifying, one after the other on the same buffers: what they leave, for every input. Definitions only. Assumes nothing.
 use mathlib.Core.Path.{_≡_}
-use mathlib.Core.Bool.{true}
 use mathlib.Core.List.{List}
 use Prim.Native.Nat.{ℕ}
 use lib.ListN.{length, replicate}
@@ -11,7 +10,8 @@ use Rattle.code.specs.Encoding.{judgeEncoding}
 use Rattle.rounds.specs.Opening.{openingWords}
 use Rattle.open.specs.Writing.{judgeWriting, valueWord}
 use Rattle.verdict.specs.Verdicts.{numbers, numbersOf}
-use Rattle.verify.specs.Verifying.{queriesOk, verification}
+use Rattle.queries.specs.Queries.{judgeQueries}
+use Rattle.verify.specs.Verifying.{verification}
 use Rattle.verdict.specs.declared.Verdict.{Verdict}
 
 module _ (𝓕 : PrimeField) where
@@ -35,4 +35,4 @@ module _ (𝓕 : PrimeField) where
   pub record NothingRefused (d c : ℕ) (g t t' m z r us : List ℕ) (n o s : ℕ) : Type 0 where
     pub encodes : judgeEncoding 𝓕 d c g t t' m n ≡ done tt
     pub writes : judgeWriting 𝓕 d c g t t' m z r o s ≡ done tt
-    pub asks : queriesOk d c us ≡ true
+    pub asks : judgeQueries d c us ≡ done tt

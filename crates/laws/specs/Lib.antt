@@ -5,6 +5,7 @@
 --     FoldCalls                  fold-law-calls, two-challenge-calls: the same, said of calls
 --     Openings                   opening-accepted, opening-fails
 --     Accepts                    accepts-exactly, rejects-exactly: when the verifier answers 0, and when it names a check
+--     Repeats                    repeats-exactly: when it refuses with 11
 --     Honest                     commit-accepted: committing, opening and verifying in turn answers 0
 --     Starred                    the numbers that are proved, as one table
 pub mod Calls
@@ -15,6 +16,7 @@ pub mod FoldCalls
 pub mod Openings
 pub mod Equations
 pub mod Accepts
+pub mod Repeats
 pub mod Commit
 pub mod Honest
 pub mod Starred

@@ -1,5 +1,5 @@
--- An opening written from any message, verified with the message's codeword, the same point and challenges and any legal queries, is accepted
--- with f(z), and with every other claimed value fails: 20 with i = d, at depth 0 with 21. Assumes nothing.
+-- An opening written from any message, verified with the message's codeword, the same point and challenges and any legal queries, all different,
+-- is accepted with f(z), and with every other claimed value fails: 20 with i = d, at depth 0 with 21. Assumes nothing.
 use mathlib.Core.Path.{_≡_, refl, sym, ap, ap₂, _∙_}
 use mathlib.Core.Bool.{true, _&&_}
 use mathlib.Core.List.{List, [], _∷_}
@@ -28,7 +28,9 @@ use Rattle.rounds.specs.Laws.{length-opening}
 use Rattle.rounds.specs.Opening.{openingWords}
 use Rattle.open.specs.Writing.{valueWord}
 use Rattle.verdict.specs.Verdicts.{numbersOf}
-use Rattle.verify.specs.Verifying.{maxQueries, openedLengths, openedWords, queriesOk, judgeVerifying, verification}
+use Rattle.queries.specs.Queries.{maxQueries, queriesOk, judgeQueries}
+use Rattle.queries.specs.QueryLaws.{queries-legal}
+use Rattle.verify.specs.Verifying.{openedLengths, openedWords, judgeVerifying, verification}
 use Rattle.laws.specs.Calls.{LegalRow}
 use Rattle.laws.specs.CallLaws.{coding-of, lengths-of}
 
@@ -48,6 +50,7 @@ no-queries : (n : ℕ) (us : List ℕ) → length us ≡ 0 → Queries n 0 us
 no-queries n [] e = tt
 no-queries n (u ∷ us) e = absurd (omega arith)
 
+-- where 7 passes
 pub legal-queries : (n d c : ℕ) (us : List ℕ) → n ≡ c → queriesOk d c us ≡ true → Queries n d us
 unfolding queriesOk
 legal-queries n zero c us e h = no-queries n us (eqb-true _ _ h)
@@ -60,7 +63,7 @@ module _ (𝓕 : PrimeField) where
   open Words W using (el, val as word)
 
   module _ (d c : ℕ) (g t t' : List ℕ) (𝓡 : LegalRow 𝓕 d c g t t') (m z r us : List ℕ) (lm : length m ≡ 2 ^ d) (lz : length z ≡ d) (lr : length r ≡ d)
-      (low-z : Low P z) (low-r : Low P r) (legal-us : queriesOk d c us ≡ true) where
+      (low-z : Low P z) (low-r : Low P r) (legal-us : judgeQueries d c us ≡ done tt) where
     coded : Coding 𝓕 d g t t'
     coded = coding-of 𝓕 𝓡
 
@@ -117,7 +120,7 @@ module _ (𝓕 : PrimeField) where
         ∙ ap done (ap₂ (λ a b. firstFailure (checks F 0 C a (elements 𝓕 z) (el y) (elements 𝓕 r) us b)) block (elements-words 𝓕 _) ∙ e)
 
     queries : Queries (length (elements 𝓕 g)) (length (elements 𝓕 r)) us
-    queries = rw depth (legal-queries (length (elements 𝓕 g)) d c us (length-elements 𝓕 g ∙ rate) legal-us)
+    queries = rw depth (legal-queries (length (elements 𝓕 g)) d c us (length-elements 𝓕 g ∙ rate) (queries-legal d c us legal-us .0))
 
     sized : length (elements 𝓕 m) ≡ dim F (lent 𝓕 g t t') (length (elements 𝓕 r))
     sized = length-elements 𝓕 m ∙ lm ∙ ap (λ k. 2 ^ k) (sym depth) ∙ sym (one-mul (2 ^ length (elements 𝓕 r)))

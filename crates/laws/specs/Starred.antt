@@ -42,7 +42,9 @@ use Rattle.parameters.specs.Lent.{lent, diagonal, codeword}
 use Rattle.parameters.specs.Parameters.{rowLengths, rowWords}
 use Rattle.decode.specs.Decoding.{judgeDecoding, decodeLengths, Decoded, settled, message, none}
 use Rattle.verdict.specs.Verdicts.{numbersOf}
-use Rattle.verify.specs.Verifying.{verification, judgeVerifying, openedLengths, openedWords, queriesOk}
+use Rattle.queries.specs.Distinct.{distinct}
+use Rattle.queries.specs.Queries.{queriesOk, judgeQueries}
+use Rattle.verify.specs.Verifying.{verification, judgeVerifying, openedLengths, openedWords}
 use Rattle.laws.specs.Calls.{LegalRow, foldedLevel}
 use Rattle.laws.specs.Folds.{fold-law}
 use Rattle.rounds.specs.Opening.{openingWords}
@@ -211,13 +213,13 @@ unfolding F₁ W₁ elements form monomial row sum prod bit of addZ mulZ
 value-0 = refl
 
 accepted-3 : verdict 3 26 4 (0 ∷ 1 ∷ []) (2147483637 ∷ 36 ∷ 152 ∷ 33 ∷ 33 ∷ 33 ∷ []) ≡ (0, 0, 0)
-unfolding queriesOk all
+unfolding judgeQueries queriesOk distinct all
 accepted-3 =
     sym (ap₂ (λ b o. numbersOf (verification 𝔽₁ 1 2 g t t' b (3 ∷ []) 26 (4 ∷ []) (0 ∷ 1 ∷ []) o)) encodes written-3)
     ∙ opening-accepted 𝔽₁ 1 2 g t t' legal m (3 ∷ []) (4 ∷ []) (0 ∷ 1 ∷ []) refl refl refl (low-1 3 (lit< tt)) (low-1 4 (lit< tt)) refl 26 (sym value-3)
 
 refused-3 : verdict 3 27 4 (0 ∷ 1 ∷ []) (2147483637 ∷ 36 ∷ 152 ∷ 33 ∷ 33 ∷ 33 ∷ []) ≡ (20, 1, 0)
-unfolding queriesOk all
+unfolding judgeQueries queriesOk distinct all
 refused-3 =
     sym (ap₂ (λ b o. numbersOf (verification 𝔽₁ 1 2 g t t' b (3 ∷ []) 27 (4 ∷ []) (0 ∷ 1 ∷ []) o)) encodes written-3)
     ∙ opening-fails 𝔽₁ 1 2 g t t' legal m (3 ∷ []) (4 ∷ []) (0 ∷ 1 ∷ []) refl refl refl (low-1 3 (lit< tt)) (low-1 4 (lit< tt)) refl 27 (lit< tt) (λ e. omega (arith, e ∙ value-3))
@@ -228,7 +230,7 @@ unfolding F₁ W₁ elements eq prod of addZ mulZ subZ negZ
 eq-0 = refl
 
 accepted-0 : verdict 0 5 1 (0 ∷ []) (5 ∷ 0 ∷ 2147483628 ∷ 12 ∷ 12 ∷ 12 ∷ []) ≡ (0, 0, 0)
-unfolding queriesOk all
+unfolding judgeQueries queriesOk distinct all
 accepted-0 =
     sym (ap₂ (λ b o. numbersOf (verification 𝔽₁ 1 2 g t t' b (0 ∷ []) 5 (1 ∷ []) (0 ∷ []) o)) encodes written-0)
     ∙ opening-accepted 𝔽₁ 1 2 g t t' legal m (0 ∷ []) (1 ∷ []) (0 ∷ []) refl refl refl (low-1 0 (lit< tt)) (low-1 1 (lit< tt)) refl 5 (sym value-0)
@@ -254,7 +256,7 @@ first-spoilt =
     zero = res-path refl
 
 spoilt-0 : verdict 0 5 1 (0 ∷ []) (5 ∷ 0 ∷ 2147483628 ∷ 13 ∷ 13 ∷ 13 ∷ []) ≡ (23, 0, 0)
-unfolding verification judgeVerifying openedLengths openedWords queriesOk rowLengths rowWords rateOk all all₂
+unfolding verification judgeVerifying openedLengths openedWords judgeQueries queriesOk distinct rowLengths rowWords rateOk all all₂
 spoilt-0 = ap (λ v. numbersOf (done v)) first-spoilt
 
 -- the claim

@@ -12,6 +12,7 @@ fn main() {
     numbers_coding::refusals();
     numbers_openings::depth_0();
     numbers_openings::queries();
+    numbers_openings::repeated();
     numbers_openings::eq_is_0();
     numbers_openings::written();
     numbers_openings::places();

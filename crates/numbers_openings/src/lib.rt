@@ -24,21 +24,38 @@ pub fn depth_0() {
     one_word(b"depth 0, one query:", 9, &query);
 }
 
-fn query(text: &[u8], y: u32, place: u32) {
+fn asked(text: &[u8], y: u32, queries: &[u32]) {
     let opened = [2147483637u32, 36, 152, 33, 33, 33];
-    verdict(text, openings::depth_1(3, y, 4, place, &opened));
+    verdict(text, openings::depth_1(3, y, 4, queries, &opened));
 }
 
 pub fn queries() {
-    query(b"query 1:", 26, 1);
-    query(b"query 2:", 26, 2);
-    query(b"y = 27:", 27, 0);
+    let first = [0u32];
+    let last = [1u32];
+    let beyond = [2u32];
+    asked(b"query 1:", 26, &last);
+    asked(b"query 2:", 26, &beyond);
+    asked(b"y = 27:", 27, &first);
+}
+
+// There are two places. One that stands twice is refused before any check, one that is too large before that.
+pub fn repeated() {
+    let both = [0u32, 1];
+    let twice = [1u32, 1];
+    let more = [0u32, 1, 0];
+    let beyond = [1u32, 1, 2];
+    asked(b"queries 0 1:", 26, &both);
+    asked(b"queries 1 1:", 26, &twice);
+    asked(b"queries 1 1, y = 27:", 27, &twice);
+    asked(b"queries 0 1 0:", 26, &more);
+    asked(b"queries 1 1 2:", 26, &beyond);
 }
 
 // eq(z, r) is 0: the final check holds for any v, and the folds decide.
 fn any_v(text: &[u8], v: u32) {
     let opened = [5u32, 0, 2147483628, v, v, v];
-    verdict(text, openings::depth_1(0, 5, 1, 0, &opened));
+    let queries = [0u32];
+    verdict(text, openings::depth_1(0, 5, 1, &queries, &opened));
 }
 
 pub fn eq_is_0() {

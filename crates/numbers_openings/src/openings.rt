@@ -31,9 +31,9 @@ pub fn depth_0(y: u32, queries: &[u32]) -> Reply
     )
 }
 
-// The opening of 5 + 7 X_0 at z with one query.
-pub fn depth_1(z: u32, y: u32, r: u32, query: u32, opened: &[u32]) -> Reply
-    ensures { λ a. ⌜ a ≡ triple (numbersOf (verification 𝔽₁ 1 2 (1 ∷ 1 ∷ []) (2 ∷ 3 ∷ []) (2147483645 ∷ 2147483644 ∷ []) (19 ∷ 26 ∷ 2147483638 ∷ 2147483631 ∷ []) (z ∷ []) y (r ∷ []) (query ∷ []) (now (opened .entry)))) ⌝ }
+// The opening of 5 + 7 X_0 at z.
+pub fn depth_1(z: u32, y: u32, r: u32, queries: &[u32], opened: &[u32]) -> Reply
+    ensures { λ a. ⌜ a ≡ triple (numbersOf (verification 𝔽₁ 1 2 (1 ∷ 1 ∷ []) (2 ∷ 3 ∷ []) (2147483645 ∷ 2147483644 ∷ []) (19 ∷ 26 ∷ 2147483638 ∷ 2147483631 ∷ []) (z ∷ []) y (r ∷ []) (now (queries .entry)) (now (opened .entry)))) ⌝ }
 {
     let g = [1u32, 1];
     let t = [2u32, 3];
@@ -41,8 +41,7 @@ pub fn depth_1(z: u32, y: u32, r: u32, query: u32, opened: &[u32]) -> Reply
     let block = [19u32, 26, 2147483638, 2147483631];
     let zs = [z];
     let rs = [r];
-    let queries = [query];
-    opening::tv_verify_opening(1, 2, &g, &t, &t2, &block, &zs, y, &rs, &queries, opened)
+    opening::tv_verify_opening(1, 2, &g, &t, &t2, &block, &zs, y, &rs, queries, opened)
 }
 
 // The opening of 1 + 2 X_0 + 3 X_1 + 4 X_0 X_1 at (5, 6) with one query.

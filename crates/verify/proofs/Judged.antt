@@ -1,9 +1,9 @@
 -- How the refusals are judged, what is known once none is due, and what is due. Assumes nothing.
-use mathlib.Core.Path.{_≡_, refl, sym, ap, _∙_}
-use mathlib.Core.Bool.{Bool, true, false, _&&_}
+use mathlib.Core.Path.{_≡_, sym, ap, _∙_}
+use mathlib.Core.Bool.{true}
 use mathlib.Core.List.{List}
 use mathlib.Core.Option.{Option}
-use Prim.Native.Nat.{ℕ, _<_}
+use Prim.Native.Nat.{ℕ, _<_, _≤_}
 use native.Mathlib.Omega.{arith}
 use lib.Dec.{eqb, ltb}
 use lib.ListN.{length}
@@ -13,40 +13,32 @@ use Rattle.algebra.specs.Words.{Words, PrimeField}
 use Rattle.algebra.specs.WordLists.{elements}
 use Rattle.basefold.specs.Layout.{openingSize}
 use Rattle.basefold.specs.Checks.{Check, firstFailure, checks}
-use Rattle.job.specs.Outcome.{Numbers, Outcome, refused, done, require, _⨾_}
-use Rattle.job.specs.OutcomeLaws.{require-done, held, both, after-refused, after-done}
-use Rattle.job.specs.Limits.{depthOk, rateOk, blockSize}
+use Rattle.job.specs.Outcome.{Numbers, refused, done}
+use Rattle.job.specs.OutcomeLaws.{require-done, both, after-refused, after-done}
+use Rattle.job.specs.Limits.{maxDepth, maxRate, depthOk, rateOk, blockSize}
 use Rattle.job.specs.LimitLaws.{depth-most, rate-most}
 use Rattle.residue.specs.Elements.{elem}
 use Rattle.words.specs.Scans.{allBelow}
 use Rattle.words.specs.ScanLaws.{all-below}
 use Rattle.residue.specs.declared.Residue.{Residue}
 use Rattle.parameters.specs.Lent.{lent}
-use Rattle.parameters.specs.Parameters.{limits, inLimits, rowLengths, rowWords, legalRow, judgeRow}
+use Rattle.parameters.specs.Parameters.{limits, rowLengths, rowWords, legalRow, judgeRow}
 use Rattle.parameters.specs.ParameterLaws.{within, row-lengths, lent-coding}
 use Rattle.layout.specs.LayoutLaws.{final-within}
 use Rattle.walks.specs.Steps.{BlocksInput}
-use Rattle.verify.specs.Verifying.{openedLengths, openedWords, queriesOk, judgeVerifying, verification}
+use Rattle.queries.specs.Queries.{queriesOk}
+use Rattle.queries.specs.QueryLaws.{queries-legal}
+use Rattle.verify.specs.Verifying.{openedLengths, openedWords, judgeOpened, judgeVerifying, verification}
 use Rattle.verify.specs.Steps.{ChecksInput}
 use Rattle.verify.proofs.QueryTests.{query-places}
-
--- the queries, which are only judged within the limits, after the row
-pub asked-after : (d c : ℕ) (g t t' : List ℕ) (l w q : Bool) {asked : Bool} {row seven out : Outcome (Unit {0})}
-    → row ≡ judgeRow d c g t t' l w → asked ≡ (inLimits d c && q) → seven ≡ require asked 7 ⨾ done tt → out ≡ row ⨾ seven → out ≡ judgeRow d c g t t' l w ⨾ require q 7
-asked-after d c g t t' l w q e f h k =
-    k ∙ (λ i. e i ⨾ h i) ∙ (λ i. judgeRow d c g t t' l w ⨾ require (f i) 7 ⨾ done tt) ∙ by (depthOk d) (rateOk c) q
-  where
-    by : (a b q : Bool)
-        → ((require a 1 ⨾ require b 2) ⨾ require l 3 ⨾ require w 4 ⨾ legalRow g t t') ⨾ require ((a && b) && q) 7 ⨾ done tt
-        ≡ ((require a 1 ⨾ require b 2) ⨾ require l 3 ⨾ require w 4 ⨾ legalRow g t t') ⨾ require q 7
-    by true true true = refl
-    by true true false = refl
-    by true false q = refl
-    by false b q = refl
 
 module _ (𝓕 : PrimeField) where
   open PrimeField 𝓕 using (modulus as P, field as F, words as W)
   open Words W using (el)
+
+  -- the queries are only judged within the limits
+  pub opened-within : (d c : ℕ) (g t t' w z : List ℕ) (y : ℕ) (r o : List ℕ) → judgeOpened 𝓕 d c g t t' w z y r o ≡ done tt → (d ≤ maxDepth) × (c ≤ maxRate)
+  opened-within d c g t t' w z y r o e = let i = within d c (sym (both (limits d c) e .0)) in (depth-most d (i .0), rate-most c (i .1))
 
   -- what is known where nothing is refused
   module _ (d c : ℕ) (g t t' w z : List ℕ) (y : ℕ) (r us o : List ℕ) (e : judgeVerifying 𝓕 d c g t t' w z y r us o ≡ done tt) where
@@ -68,7 +60,7 @@ module _ (𝓕 : PrimeField) where
         let i = within d c (sym (a .0)) in
         let l = require-done L 3 (a .1) in
         let k = require-done W 4 (l .1) in
-        record { depth = i .0; rate = i .1; lengths = l .0; words = k .0; row = k .1; queries = held (queriesOk d c us) 7 (q .1) }
+        record { depth = i .0; rate = i .1; lengths = l .0; words = k .0; row = k .1; queries = queries-legal d c us (q .1) .0 }
 
     pub value-low : y < P
     unfolding openedWords

@@ -4,10 +4,8 @@ ghost use mathlib.Core.Bool.{_&&_};
 ghost use Rattle.residue.specs.Chosen.{chosen};
 ghost use Rattle.job.specs.Outcome.{outcome};
 ghost use Rattle.parameters.specs.Parameters.{inLimits};
-ghost use Rattle.verify.specs.Verifying.{openedLengths, claimWords, judgeVerifying};
-use crate::queries;
+ghost use Rattle.verify.specs.Verifying.{openedLengths, claimWords, judgeOpened, judgeVerifying};
 use job::Answer;
-use job::Refusal;
 use residue::Field;
 use residue::Residue;
 use words::scan;
@@ -71,6 +69,38 @@ fn words_ok(
     scan::all_below(opening, field)
 }
 
+// All that is lent but the queries.
+fn judge_opened(
+    depth: u32,
+    rate: u32,
+    g: &[u32],
+    t: &[u32],
+    t2: &[u32],
+    block: &[u32],
+    z: &[u32],
+    y: u32,
+    r: &[u32],
+    opening: &[u32],
+    field: Field,
+) -> Answer
+    ensures { λ a. ⌜ outcome a ≡ judgeOpened (chosen field) depth rate (now (g .entry)) (now (t .entry)) (now (t2 .entry)) (now (block .entry)) (now (z .entry)) y (now (r .entry)) (now (opening .entry)) ⌝ }
+{
+    let lengths = lengths_ok(
+        depth,
+        rate,
+        g.len(),
+        t.len(),
+        t2.len(),
+        block.len(),
+        z.len(),
+        r.len(),
+        opening.len(),
+    );
+    let row = parameters::scan_row(lengths, g, t, t2, field);
+    let words = words_ok(row.words, block, z, y, r, opening, field);
+    parameters::judge(depth, rate, g, lengths, words, row.apart)
+}
+
 pub fn judge(
     depth: u32,
     rate: u32,
@@ -87,21 +117,9 @@ pub fn judge(
 ) -> Answer
     ensures { λ a. ⌜ outcome a ≡ judgeVerifying (chosen field) depth rate (now (g .entry)) (now (t .entry)) (now (t2 .entry)) (now (block .entry)) (now (z .entry)) y (now (r .entry)) (now (queries .entry)) (now (opening .entry)) ⌝ }
 {
-    let lengths = lengths_ok(
-        depth,
-        rate,
-        g.len(),
-        t.len(),
-        t2.len(),
-        block.len(),
-        z.len(),
-        r.len(),
-        opening.len(),
-    );
-    let row = parameters::scan_row(lengths, g, t, t2, field);
-    let words = words_ok(row.words, block, z, y, r, opening, field);
-    let six = parameters::judge(depth, rate, g, lengths, words, row.apart);
-    let asked = queries::queries_ok(depth, rate, queries);
-    let seven = job::require(asked, Refusal::Queries, Answer::Done);
-    job::then(six, seven)
+    let opened = judge_opened(depth, rate, g, t, t2, block, z, y, r, opening, field);
+    if let Answer::Refused(n) = opened {
+        return Answer::Refused(n);
+    }
+    queries::judge(depth, rate, queries)
 }

@@ -10,7 +10,7 @@ use residue::Field;
 use residue::Residue;
 
 // Whether each word is below p.
-fn all_under(s: &[u32], p: u32) -> bool
+pub fn all_under(s: &[u32], p: u32) -> bool
     ensures { λ r. ⌜ r ≡ allUnder p (now (s .entry)) ⌝ }
 {
     let mut ok = true;

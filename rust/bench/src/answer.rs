@@ -3,7 +3,7 @@
 /// The number, and the places that it names, else zeros.
 #[derive(Clone, Copy, PartialEq, Eq, Debug)]
 pub struct Answer {
-    /// 0 is done or accepted, 1 to 9 a refusal, 20 to 23 a failed check.
+    /// 0 is done or accepted, 1 to 9 and 11 a refusal, 20 to 23 a failed check.
     pub number: u32,
     /// 20: i. 22: j. 23: the query's position.
     pub first: u32,
@@ -39,12 +39,14 @@ pub enum Refusal {
     BaseRow = 5,
     /// Diagonals that are equal in some place.
     Diagonals = 6,
-    /// The query list.
+    /// The query list: its length, or a place that is too large.
     Queries = 7,
     /// A block that is no codeword.
     NoCodeword = 8,
     /// A clearance out of range.
     Clearance = 9,
+    /// A place that stands in the query list more than once.
+    Repeated = 11,
 }
 
 impl From<Refusal> for Answer {

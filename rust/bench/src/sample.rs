@@ -46,12 +46,17 @@ impl Inputs {
         inputs
     }
 
-    /// Another query list, of this length; without places to draw from it is empty.
+    /// Another query list, of so many different places, or of all where there are no more.
     pub fn draw_queries(&mut self, count: usize) {
         let places = self.fold_t.len();
         let mut rng = Rng(7);
-        let count = if places == 0 { 0 } else { count };
-        self.queries = (0..count).map(|_| rng.below(places) as u32).collect();
+        self.queries.clear();
+        while self.queries.len() < count.min(places) {
+            let place = rng.below(places) as u32;
+            if !self.queries.contains(&place) {
+                self.queries.push(place);
+            }
+        }
     }
 }
 

@@ -5,7 +5,7 @@ use std::fmt;
 /// The answer of a job: the order's number and its named places, else zeros.
 #[derive(Clone, Copy, PartialEq, Eq, Debug)]
 pub struct Answer {
-    /// 0 is done or accepted, 1 to 9 a refusal, 20 to 23 a failed check.
+    /// 0 is done or accepted, 1 to 9 and 11 a refusal, 20 to 23 a failed check.
     pub number: u32,
     /// 20: i. 22: j. 23: the query's position.
     pub first: u32,
@@ -65,6 +65,8 @@ pub enum Refusal {
     NoCodeword = 8,
     /// A clearance outside the range.
     Clearance = 9,
+    /// A place that stands in the query list more than once.
+    Repeated = 11,
 }
 
 impl From<Refusal> for Answer {

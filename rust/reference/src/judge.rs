@@ -4,6 +4,7 @@
 use crate::answer::Refusal;
 use crate::residue::Residue;
 use crate::sizes::{Sizes, MAX_DEPTH, MAX_QUERIES, MAX_TABLE, RATES};
+use std::collections::HashSet;
 
 fn demand(holds: bool, refusal: Refusal) -> Result<(), Refusal> {
     if holds {
@@ -66,7 +67,7 @@ pub fn diagonals(t: &[Residue], t2: &[Residue]) -> Result<(), Refusal> {
     demand(t.iter().zip(t2).all(|(a, b)| a != b), Refusal::EqualPair)
 }
 
-/// 7: at depth 0 no query; else 1 to 256 places below n_(d-1), repeated or not.
+/// 7: at depth 0 no query; else 1 to 256 places below n_(d-1).
 pub fn queries(queries: &[u32], sizes: &Sizes) -> Result<Vec<usize>, Refusal> {
     if sizes.depth == 0 {
         demand(queries.is_empty(), Refusal::Queries)?;
@@ -77,6 +78,12 @@ pub fn queries(queries: &[u32], sizes: &Sizes) -> Result<Vec<usize>, Refusal> {
     let places = queries.iter().all(|&place| (place as usize) < below);
     demand(count && places, Refusal::Queries)?;
     Ok(queries.iter().map(|&place| place as usize).collect())
+}
+
+/// 11: a list with a repeated place is refused; there are as many different places as queries.
+pub fn different(queries: &[usize]) -> Result<(), Refusal> {
+    let places: HashSet<&usize> = queries.iter().collect();
+    demand(places.len() == queries.len(), Refusal::Repeated)
 }
 
 /// Writes residues into a result buffer of their exact length.

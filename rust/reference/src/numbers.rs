@@ -2,6 +2,7 @@
 //! jobs. They panic where a number is not met.
 
 mod deep;
+mod queries;
 
 use crate::answer::Answer;
 use crate::code::LentCode;
@@ -153,6 +154,7 @@ pub fn opening<J: OpeningJobs>() {
     assert_eq!(verify(8, &[]), answer(21, 0, 0));
     assert_eq!(verify(9, &[0]), answer(7, 0, 0));
     second_half::<J>();
+    queries::opening::<J>();
     deep::opening::<J>();
 }
 

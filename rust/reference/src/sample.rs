@@ -83,6 +83,19 @@ impl Rng {
         (0..count).map(|_| self.styled(style).word()).collect()
     }
 
+    /// Different numbers below `bound`, which is at least `count`.
+    pub fn places(&mut self, count: usize, bound: usize) -> Vec<u32> {
+        assert!(count <= bound);
+        let mut places = Vec::with_capacity(count);
+        while places.len() < count {
+            let place = self.below(bound) as u32;
+            if !places.contains(&place) {
+                places.push(place);
+            }
+        }
+        places
+    }
+
     /// A legal base row, T and T' as words.
     pub fn code(&mut self, sizes: &Sizes, style: Style) -> [Vec<u32>; 3] {
         let g = (0..sizes.rate).map(|_| self.non_zero(style)).collect();

@@ -136,7 +136,7 @@ fn first_wrong_fold(claim: &Claim, code: &Code, place: usize) -> Option<usize> {
     None
 }
 
-/// The verifying job. Refusals 1 to 7, then the verdict.
+/// The verifying job. Refusals 1 to 7 and 11, then the verdict.
 pub fn verify_opening(
     lent: LentCode,
     block: &[u32],
@@ -152,7 +152,7 @@ pub fn verify_opening(
     }
 }
 
-/// Refusals 1 to 7 of the verifying job.
+/// Refusals 1 to 7 and 11 of the verifying job.
 pub fn judge_claim(
     lent: LentCode,
     block: &[u32],
@@ -174,6 +174,7 @@ pub fn judge_claim(
         [block, z, &[y], r, opening],
     )?;
     let queries = judge::queries(queries, &code.sizes)?;
+    judge::different(&queries)?;
     let claim = Claim {
         block,
         z,

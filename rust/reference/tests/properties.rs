@@ -22,12 +22,12 @@ struct Honest {
 
 impl Honest {
     fn new(rng: &mut Rng, sizes: Sizes, style: Style) -> Honest {
+        let below = sizes.top_block() / 2;
         let count = if sizes.depth == 0 {
             0
         } else {
-            1 + rng.below(6)
+            1 + rng.below(below.min(6))
         };
-        let below = sizes.top_block() / 2;
         let mut honest = Honest {
             sizes,
             code: rng.code(&sizes, style),
@@ -36,7 +36,7 @@ impl Honest {
             z: rng.words(sizes.depth, style),
             y: 0,
             r: rng.words(sizes.depth, style),
-            queries: (0..count).map(|_| rng.below(below) as u32).collect(),
+            queries: rng.places(count, below),
             opening: vec![0; sizes.opening()],
         };
         let mut block = std::mem::take(&mut honest.block);
@@ -138,6 +138,30 @@ fn every_query_accepts_an_honest_opening() {
         for query in 0..honest.sizes.block(depth - 1) as u32 {
             honest.queries = vec![query];
             assert_eq!(honest.verdict(), (0, 0, 0));
+        }
+    }
+}
+
+/// Different places are no reason to refuse, however many; one that stands at any two positions is,
+/// for a value that is not shown too.
+#[test]
+fn every_repeat_is_refused() {
+    let mut rng = Rng::new(26);
+    for (depth, rate, count) in [(1, 2, 2), (2, 3, 6), (3, 2, 7), (9, 2, 20), (6, 16, 256)] {
+        let mut honest = Honest::new(&mut rng, Sizes { depth, rate }, Style::Random);
+        let places = rng.places(count, honest.sizes.block(depth - 1));
+        honest.queries.clone_from(&places);
+        assert_eq!(honest.verdict(), (0, 0, 0));
+        for k in 1..count {
+            for j in (0..k).filter(|j| count < 256 || j % 41 == k % 41) {
+                honest.queries.clone_from(&places);
+                honest.queries[k] = places[j];
+                assert_eq!(honest.verdict(), (11, 0, 0));
+                let y = honest.y;
+                moved(&mut honest.y);
+                assert_eq!(honest.verdict(), (11, 0, 0));
+                honest.y = y;
+            }
         }
     }
 }

@@ -38,7 +38,7 @@ impl Job {
             Job::Encode | Job::WriteOpening => &[0, 1, 2, 3, 4, 5, 6],
             Job::Decode => &[0, 1, 2, 3, 4, 5, 6, 8],
             Job::Fold => &[0, 1, 2, 3, 4, 6],
-            Job::VerifyOpening => &[0, 1, 2, 3, 4, 5, 6, 7, 20, 21, 22, 23],
+            Job::VerifyOpening => &[0, 1, 2, 3, 4, 5, 6, 7, 11, 20, 21, 22, 23],
         }
     }
 }

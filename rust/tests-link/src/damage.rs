@@ -61,14 +61,18 @@ pub enum Damage {
     ZeroInRow(Place),
     /// T' like T in a place.
     EqualPair(Place),
-    /// A query list of this length.
+    /// A query list of this length, cut or filled with zeros.
     QueryCount(usize),
     /// A query that is this much above the largest legal place.
     QueryAbove(u32, Place),
     /// A query that is the largest word.
     QueryMax(Place),
-    /// The first query once more, at the end of the list: legal.
+    /// The first query once more, at the end of the list.
     QueryRepeated,
+    /// The last query like the first.
+    QueryCopied,
+    /// The list filled up to this length with other places, as far as there are some: no repeat.
+    QueryFilled(usize),
     /// Another clearance.
     Clearance(i32, Place),
 }
@@ -111,7 +115,8 @@ pub fn all(call: &Call) -> Vec<Damage> {
         damages.extend(PLACES.map(|place| Damage::QueryAbove(0, place)));
         damages.extend(PLACES.map(|place| Damage::QueryAbove(1, place)));
         damages.extend(PLACES.map(Damage::QueryMax));
-        damages.push(Damage::QueryRepeated);
+        damages.extend([Damage::QueryRepeated, Damage::QueryCopied]);
+        damages.push(Damage::QueryFilled(256));
     }
     if lent.table.is_some() {
         let edge = 1_073_741_823;
@@ -186,6 +191,13 @@ pub fn apply(call: &mut Call, damage: Damage, rng: &mut Rng) {
             let queries = lent.words_mut(Input::Queries);
             queries.extend(queries.first().copied());
         }
+        Damage::QueryCopied => {
+            let queries = lent.words_mut(Input::Queries);
+            if let [first, .., last] = &mut queries[..] {
+                *last = *first;
+            }
+        }
+        Damage::QueryFilled(count) => fill(lent.words_mut(Input::Queries), count, legal),
         Damage::Clearance(word, place) => {
             change(lent.table.as_mut().expect("a table"), place, rng, |_| word);
         }
@@ -199,6 +211,14 @@ fn legal_places(call: &Call) -> u32 {
         1..=MAX_DEPTH if rate <= 16 => rate << (depth - 1),
         _ => 0,
     }
+}
+
+/// The smallest places that are not in the list yet, behind it.
+fn fill(queries: &mut Vec<u32>, count: usize, legal: u32) {
+    let missing = count.saturating_sub(queries.len());
+    let others = (0..legal).filter(|place| !queries.contains(place));
+    let others: Vec<u32> = others.take(missing).collect();
+    queries.extend(others);
 }
 
 fn resize(call: &mut Call, slice: Slice, length: Length) {

@@ -138,26 +138,27 @@ fn lend_code(call: &mut Call, shape: Shape, rng: &mut Rng) {
     }
 }
 
-/// A legal query list: mostly short, with the ends and the starts of the second halves among it.
+/// A legal query list, no place twice: mostly short, with the ends and the starts of the second halves
+/// among it.
 pub fn queries(sizes: &Sizes, rng: &mut Rng) -> Vec<u32> {
     if sizes.depth == 0 || sizes.rate == 0 {
         return Vec::new();
     }
     let count = match rng.below(20) {
-        0 => 256,
-        1 => 1 + rng.below(256),
+        0 => MAX_QUERIES,
+        1 => 1 + rng.below(MAX_QUERIES),
         2..=7 => 1,
         _ => 1 + rng.below(8),
     };
     let below = sizes.block(sizes.depth - 1);
-    let place = |_| match rng.below(6) {
+    let place = || match rng.below(6) {
         0 => 0,
         1 => below - 1,
         2 => sizes.block(rng.below(sizes.depth)) % below,
         3 => (sizes.block(rng.below(sizes.depth)) - 1) % below,
         _ => rng.below(below),
     };
-    (0..count).map(place).map(|place| place as u32).collect()
+    different(count.min(below), std::iter::repeat_with(place))
 }
 
 /// As many different queries as are legal, at most 256: the ends, the starts and ends of the second
@@ -169,11 +170,17 @@ pub fn most_queries(sizes: &Sizes, rng: &mut Rng) -> Vec<u32> {
     let below = sizes.block(sizes.depth - 1);
     let starts = (0..sizes.depth).map(|level| sizes.block(level));
     let edges = starts.flat_map(|start| [start - 1, start % below]);
-    let count = below.min(MAX_QUERIES);
-    let mut queries: Vec<u32> = Vec::with_capacity(count);
-    let mut places = edges.chain(std::iter::repeat_with(|| rng.below(below)));
-    while queries.len() < count {
-        let place = places.next().expect("there is always another") as u32;
+    let places = edges.chain(std::iter::repeat_with(|| rng.below(below)));
+    different(below.min(MAX_QUERIES), places)
+}
+
+/// So many of the places, but those that came before left out.
+fn different(count: usize, places: impl Iterator<Item = usize>) -> Vec<u32> {
+    let mut queries = Vec::with_capacity(count);
+    for place in places.map(|place| place as u32) {
+        if queries.len() == count {
+            break;
+        }
         if !queries.contains(&place) {
             queries.push(place);
         }

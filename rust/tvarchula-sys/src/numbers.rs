@@ -44,6 +44,8 @@ pub const TV_REFUSED_QUERIES: u32 = 7;
 pub const TV_REFUSED_NO_CODEWORD: u32 = 8;
 /// A clearance out of range.
 pub const TV_REFUSED_CLEARANCE: u32 = 9;
+/// A place that stands in the query list more than once.
+pub const TV_REFUSED_REPEATED: u32 = 11;
 /// A sum check fails.
 pub const TV_FAILED_SUM: u32 = 20;
 /// The final check fails.

@@ -16,7 +16,6 @@ use toy::{corner, Row, Toy};
 use tvarchula::*;
 
 const RATE: u32 = 8;
-const QUERIES: usize = MAX_QUERIES;
 
 /// What is done.
 #[derive(Clone, Copy)]
@@ -24,6 +23,13 @@ struct Plan {
     depth: u32,
     entries: u32,
     patterns: u32,
+}
+
+impl Plan {
+    /// As many different places as a call takes, or as there are.
+    fn queries(self) -> usize {
+        MAX_QUERIES.min(block_len(self.depth - 1, RATE))
+    }
 }
 
 /// What one thread took.
@@ -59,7 +65,8 @@ fn main() -> Result<(), Box<dyn Error>> {
         ended.collect::<Result<_, VerifyError>>()
     })?;
     let openings = patterns * plan.entries;
-    println!("all {openings} openings accepted, {QUERIES} queries each");
+    let queries = plan.queries();
+    println!("all {openings} openings accepted, {queries} queries each");
     println!("all of it took {:.2} s", start.elapsed().as_secs_f64());
 
     let line = |what: &str, count: u32, part: fn(&Taken) -> Duration| {
@@ -95,7 +102,7 @@ fn work_through(row: &Row, plan: Plan, seed: u64) -> Result<Taken, VerifyError> 
             let entry = toy.below(1 << depth);
             let z = corner(entry, depth);
             let r = toy.list(depth as usize, MODULUS);
-            let queries = toy.list(QUERIES, block_len(depth - 1, RATE) as u32);
+            let queries = toy.places(plan.queries(), block_len(depth - 1, RATE) as u32);
 
             let start = Instant::now();
             let question = Question { z: &z, r: &r };

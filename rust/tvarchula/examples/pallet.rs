@@ -30,7 +30,7 @@ impl Asked {
         Asked {
             z: corner(layout, DEPTH),
             r: drawn.list(DEPTH as usize, MODULUS),
-            queries: drawn.list(8, block_len(DEPTH - 1, RATE) as u32),
+            queries: drawn.places(8, block_len(DEPTH - 1, RATE) as u32),
         }
     }
 

@@ -32,8 +32,8 @@ pub struct Claim<'a> {
     /// The challenges under which the opening was written.
     pub r: &'a [u32],
     /// The places at which folds are checked: 1 to [`MAX_QUERIES`](crate::MAX_QUERIES) places below
-    /// [`block_len`](crate::block_len)`(depth - 1, rate)`, repeated or not; at depth 0 none. The
-    /// planner could not foresee them when it wrote the opening.
+    /// [`block_len`](crate::block_len)`(depth - 1, rate)`, each different from all others; at depth 0
+    /// none. The planner could not foresee them when it wrote the opening.
     pub queries: &'a [u32],
 }
 
@@ -94,10 +94,11 @@ pub fn write_opening_vec(
 ///
 /// [`VerifyError::Rejected`] with the first check that fails, when all is well formed.
 /// [`VerifyError::Refused`] with [`Refusal::Depth`], [`Refusal::Rate`], [`Refusal::Length`],
-/// [`Refusal::Word`], [`Refusal::BaseRow`], [`Refusal::Diagonals`] or [`Refusal::Queries`].
+/// [`Refusal::Word`], [`Refusal::BaseRow`], [`Refusal::Diagonals`], [`Refusal::Queries`] or
+/// [`Refusal::Repeated`].
 ///
 /// ```
-/// use tvarchula::{verify_opening, Claim, Code, Failure, VerifyError};
+/// use tvarchula::{verify_opening, Claim, Code, Failure, Refusal, VerifyError};
 /// let code = Code::new(1, 2, &[1, 1], &[2, 3], &[2147483645, 2147483644]);
 /// let block = [19, 26, 2147483638, 2147483631];
 /// let opening = [2147483637, 36, 152, 33, 33, 33];
@@ -107,6 +108,10 @@ pub fn write_opening_vec(
 /// let forged = Claim { y: 27, ..claim };
 /// let rejected = Err(VerifyError::Rejected(Failure::Sum(1)));
 /// assert_eq!(verify_opening(&code, &block, &forged, &opening), rejected);
+///
+/// let twice = Claim { queries: &[1, 1], ..claim };
+/// let refused = Err(VerifyError::Refused(Refusal::Repeated));
+/// assert_eq!(verify_opening(&code, &block, &twice, &opening), refused);
 /// ```
 ///
 /// Nobody can overlook the answer:

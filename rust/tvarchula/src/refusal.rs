@@ -41,6 +41,9 @@ pub enum Refusal {
     NoCodeword,
     /// 9: a clearance outside -[`MAX_CLEARANCE`] to [`MAX_CLEARANCE`].
     Clearance,
+    /// 11: a place that stands in the query list more than once. Only verifying answers this, before
+    /// any check of the opening.
+    Repeated,
     /// The archive answered what this crate does not know: it is of another version. Nothing that
     /// such a call wrote or said may be used.
     Unknown {
@@ -52,7 +55,7 @@ pub enum Refusal {
 }
 
 impl Refusal {
-    /// The number that C sees, 1 to 9. [`Refusal::Unknown`] has the number that was answered.
+    /// The number that C sees, 1 to 9 or 11. [`Refusal::Unknown`] has the number that was answered.
     #[must_use]
     pub const fn number(self) -> u32 {
         match self {
@@ -65,6 +68,7 @@ impl Refusal {
             Refusal::Queries => sys::TV_REFUSED_QUERIES,
             Refusal::NoCodeword => sys::TV_REFUSED_NO_CODEWORD,
             Refusal::Clearance => sys::TV_REFUSED_CLEARANCE,
+            Refusal::Repeated => sys::TV_REFUSED_REPEATED,
             Refusal::Unknown { number, .. } => number,
         }
     }
@@ -88,6 +92,7 @@ impl Refusal {
             sys::TV_REFUSED_QUERIES => Refusal::Queries,
             sys::TV_REFUSED_NO_CODEWORD => Refusal::NoCodeword,
             sys::TV_REFUSED_CLEARANCE => Refusal::Clearance,
+            sys::TV_REFUSED_REPEATED => Refusal::Repeated,
             _ => return None,
         })
     }
@@ -112,6 +117,9 @@ impl fmt::Display for Refusal {
             Refusal::NoCodeword => f.write_str("the block is no codeword"),
             Refusal::Clearance => {
                 write!(f, "a clearance is further than {MAX_CLEARANCE} micrometres from 0")
+            }
+            Refusal::Repeated => {
+                f.write_str("a place stands in the query list more than once")
             }
             Refusal::Unknown { number, kind } => write!(
                 f,
@@ -145,7 +153,7 @@ mod tests {
             assert_eq!(done(number).unwrap_err().number(), number);
         }
         let unknown = |number| Err(Refusal::Unknown { number, kind: 0 });
-        for number in [10, 11, 20, 23, 24, 40, u32::MAX] {
+        for number in [10, 12, 20, 23, 24, 40, u32::MAX] {
             assert_eq!(done(number), unknown(number));
         }
     }

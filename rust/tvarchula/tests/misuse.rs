@@ -57,6 +57,13 @@ fn a_refusal_is_an_error_too() {
     };
     let refusal = VerifyError::Refused(Refusal::Queries);
     assert_eq!(refused(no_queries), refusal);
+    let repeated = Claim {
+        queries: &[1, 1],
+        ..CLAIM
+    };
+    let refusal = VerifyError::Refused(Refusal::Repeated);
+    assert_eq!(refused(repeated), refusal);
+    assert_eq!(refusal.number(), 11);
     let no_residue = Claim {
         y: MODULUS,
         ..CLAIM

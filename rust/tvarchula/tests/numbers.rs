@@ -114,12 +114,13 @@ fn refusals() {
     assert_eq!(refused(pair), Refusal::Diagonals);
     let zero_and_pair = |code: &mut Code<'_>| (code.g, code.t2) = (&[1, 0], &[5, 3]);
     assert_eq!(refused(zero_and_pair), Refusal::BaseRow);
-    for number in 1..=9 {
+    for number in (1..=9).chain([11]) {
         let refusal = Refusal::from_number(number).unwrap();
         assert_eq!(refusal.number(), number);
         assert!(!refusal.to_string().is_empty());
     }
     assert_eq!(Refusal::from_number(10), None);
+    assert_eq!(Refusal::from_number(12), None);
 }
 
 /// An opening of 5 + 7 X at z under r, and the value.
@@ -174,6 +175,38 @@ fn openings() {
     assert_eq!(judged(0, 5, 1, &[0], &opening), rejected(fold));
 }
 
+/// A place too large is 7 wherever it stands; else a repeat is 11, before any check.
+#[test]
+fn repeated_queries() {
+    let judged = |queries: &[u32]| {
+        let verdict = judged(3, 26, 4, queries, &OPENING);
+        // The same with a value that a check would reject.
+        assert_eq!(judged(3, 27, 4, queries, &OPENING), verdict);
+        verdict
+    };
+    for queries in [&[0, 0][..], &[1, 0, 1], &[0, 1, 1], &[1; 256]] {
+        assert_eq!(judged(queries), Err(Refusal::Repeated));
+    }
+    for queries in [&[0, 0, 2][..], &[2, 0, 0], &[0, 2, 0], &[2, 2], &[0; 257]] {
+        assert_eq!(judged(queries), Err(Refusal::Queries));
+    }
+    let refused = |code: &Code<'_>, block: &[u32]| {
+        let claim = Claim {
+            z: &[3],
+            y: 26,
+            r: &[4],
+            queries: &[0, 0],
+        };
+        verdict(code, block, &claim, &OPENING).unwrap_err()
+    };
+    assert_eq!(refused(&CODE, &BLOCK), Refusal::Repeated);
+    assert_eq!(refused(&CODE, &[19, 26, P, 5]), Refusal::Word);
+    assert_eq!(refused(&CODE, &BLOCK[1..]), Refusal::Length);
+    let mut zero = CODE;
+    zero.g = &[1, 0];
+    assert_eq!(refused(&zero, &BLOCK), Refusal::BaseRow);
+}
+
 #[test]
 fn openings_at_depth_0() {
     let judged = |y, queries: &[u32]| {
@@ -192,6 +225,7 @@ fn openings_at_depth_0() {
     assert_eq!(judged(9, &[]), Ok(Verdict::Accepted));
     assert_eq!(judged(8, &[]), Ok(Verdict::Rejected(Failure::Final)));
     assert_eq!(judged(9, &[0]), Err(Refusal::Queries));
+    assert_eq!(judged(9, &[0, 0]), Err(Refusal::Queries));
 }
 
 /// At depth 2 the second query, 2, goes on at place 0 of level 1, where a word is wrong.

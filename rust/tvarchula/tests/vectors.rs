@@ -65,17 +65,22 @@ fn opened(depth: u32, rate: u32, opening_words: usize) {
     };
     let (opening, value) = write_opening_vec(&code, &message, &question).unwrap();
     assert_eq!(opening.len(), opening_words);
-    let queries: Vec<u32> = (0..MAX_QUERIES as u32).collect();
-    let verify = |y| {
+    let mut queries: Vec<u32> = (0..MAX_QUERIES as u32).collect();
+    let verify = |y, queries: &[u32]| {
         let claim = Claim {
             z: &point,
             y,
             r: &point,
-            queries: &queries,
+            queries,
         };
         verify_opening(&code, &block, &claim, &opening)
     };
-    assert_eq!(verify(value), Ok(()));
+    assert_eq!(verify(value, &queries), Ok(()));
+    let another = (value + 1) % MODULUS;
     let rejected = Err(VerifyError::Rejected(Failure::Sum(depth)));
-    assert_eq!(verify((value + 1) % MODULUS), rejected);
+    assert_eq!(verify(another, &queries), rejected);
+    queries[MAX_QUERIES - 1] = queries[0];
+    let refused = Err(VerifyError::Refused(Refusal::Repeated));
+    assert_eq!(verify(value, &queries), refused);
+    assert_eq!(verify(another, &queries), refused);
 }

@@ -60,6 +60,7 @@ fn judge(code: &Code<'_>, lent: &Opened<'_>) -> Result<Sizes, Refusal> {
     };
     let sizes = judge::code(code, lengths, &[block, z, &[lent.y], r, opening])?;
     judge::ensure(queries_ok(sizes, lent.queries), Refusal::Queries)?;
+    judge::ensure(different(lent.queries), Refusal::Repeated)?;
     Ok(sizes)
 }
 
@@ -70,6 +71,20 @@ fn queries_ok(sizes: Sizes, queries: &[u32]) -> bool {
     let places = sizes.block(sizes.depth - 1);
     let within = |ok, &query: &u32| ok & ((query as usize) < places);
     (1..=MAX_QUERIES).contains(&queries.len()) && queries.iter().fold(true, within)
+}
+
+/// Whether no place stands twice. Each leaves a mark for its remainder; one that meets a mark is compared
+/// with all before it, in a pass that does not leave early.
+fn different(queries: &[u32]) -> bool {
+    let mut marks = [false; 1024];
+    for (i, place) in queries.iter().enumerate() {
+        let mark = &mut marks[*place as usize % 1024];
+        if *mark && queries[..i].iter().fold(false, |met, w| met | (w == place)) {
+            return false;
+        }
+        *mark = true;
+    }
+    true
 }
 
 /// The sums, from the top one down: the claim that is left.

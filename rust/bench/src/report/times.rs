@@ -17,7 +17,7 @@ pub struct Case {
     pub name: &'static str,
     /// The job.
     pub job: Job,
-    /// How many queries are lent.
+    /// How many queries are lent, or all where there are fewer places.
     pub queries: usize,
     /// Plain Rust, with the reduction for Mersenne primes and with `%`.
     plain: [Call; 2],

@@ -43,7 +43,7 @@ pub const ALL: &[Damage] = &[
     |i, _| set(i.r.last_mut(), P),
     |i, _| set(i.opening.last_mut(), P),
     |i, _| i.challenge = P,
-    // 5, 6 and 7
+    // 5, 6, 7 and 11
     |i, _| set(i.g.last_mut(), 0),
     |i, _| equal_pair(&i.t, &mut i.t2),
     |i, _| equal_pair(&i.fold_t, &mut i.fold_t2),
@@ -51,6 +51,8 @@ pub const ALL: &[Damage] = &[
     |i, _| i.queries.resize(MAX_QUERIES, 0),
     |i, _| i.queries.resize(MAX_QUERIES + 1, 0),
     |i, _| set(i.queries.last_mut(), i.fold_t.len() as u32),
+    |i, _| i.queries.extend_from_within(..1.min(i.queries.len())),
+    |i, _| first_again(&mut i.queries),
     // 8 and 23
     |i, _| moved(i.block.first_mut()),
     |i, _| moved(i.block.last_mut()),
@@ -68,6 +70,7 @@ pub const ALL: &[Damage] = &[
     // Other words, but nothing to refuse
     |i, _| i.message.fill(P - 1),
     |i, _| i.clearances.fill(-MAX_CLEARANCE),
+    |i, _| i.draw_queries(MAX_QUERIES),
 ];
 
 fn longer<T: Default>(slice: &mut Vec<T>) {
@@ -87,6 +90,13 @@ fn set<T>(place: Option<&mut T>, word: T) {
 fn equal_pair(t: &[u32], t2: &mut [u32]) {
     if let Some(&t) = t.last() {
         set(t2.last_mut(), t);
+    }
+}
+
+/// The last place like the first, where there are two.
+fn first_again(queries: &mut [u32]) {
+    if let [first, .., last] = queries {
+        *last = *first;
     }
 }
 

@@ -48,7 +48,7 @@ fn run(side: Call, job: Job, inputs: &Inputs, buffers: &Buffers) -> (Answer, Buf
 }
 
 fn all_numbers() -> Numbers {
-    (0..=9).chain(20..=23).collect()
+    (0..=9).chain([11]).chain(20..=23).collect()
 }
 
 #[test]
@@ -90,6 +90,34 @@ fn bench_sizes_with_every_damage() {
         }
     }
     assert_eq!(numbers, all_numbers(), "every answer has to come");
+}
+
+/// A place that repeats: at every two positions of short lists, at some of the longest.
+#[test]
+fn repeated_places() {
+    let mut inputs = Inputs::drawn(Sizes { depth: 6, rate: 8 }, 0);
+    for (count, step) in (1..=20)
+        .map(|count| (count, 1))
+        .chain([(255, 97), (256, 97)])
+    {
+        inputs.draw_queries(count);
+        assert_eq!(verified(&inputs), 0);
+        let pairs = (1..count).flat_map(|k| (0..k).map(move |j| (j, k)));
+        for (j, k) in pairs.step_by(step) {
+            let kept = inputs.queries[k];
+            inputs.queries[k] = inputs.queries[j];
+            assert_eq!(verified(&inputs), 11, "{count} places, {j} and {k}");
+            inputs.queries[k] = kept;
+        }
+    }
+}
+
+/// What the library and plain Rust answer.
+fn verified(inputs: &Inputs) -> u32 {
+    let sides: [Call; 2] = [call::<Library>, call::<Plain>];
+    let answers = sides.map(|side| run(side, Job::Verify, inputs, &Buffers::default()).0);
+    assert_eq!(answers[0], answers[1]);
+    answers[0].number
 }
 
 #[test]

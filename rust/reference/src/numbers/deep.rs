@@ -10,22 +10,22 @@ use crate::jobs::{CodeJobs, GroundJobs, OpeningJobs};
 
 const LEGAL: [usize; 2] = [17, 20];
 
-fn message(depth: usize) -> Vec<u32> {
+pub fn message(depth: usize) -> Vec<u32> {
     let mut message = vec![0; 1 << depth];
     message[0] = 9;
     message
 }
 
 /// Rate 2, with words that are legal in every place.
-struct Row([Vec<u32>; 2]);
+pub struct Row([Vec<u32>; 2]);
 
 impl Row {
-    fn new(depth: usize) -> Row {
+    pub fn new(depth: usize) -> Row {
         let length = 2 * ((1 << depth) - 1);
         Row([vec![2; length], vec![3; length]])
     }
 
-    fn code(&self, depth: usize) -> LentCode<'_> {
+    pub fn code(&self, depth: usize) -> LentCode<'_> {
         let [t, t2] = &self.0;
         LentCode {
             depth: depth as u32,

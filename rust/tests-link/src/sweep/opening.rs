@@ -1,6 +1,6 @@
 //! Writing and verifying openings.
 
-use super::{damaged, good, illegal_sizes, once_deep, pairs, random, singles, Swept};
+use super::{damaged, good, illegal_sizes, once_deep, pairs, random, repeats, singles, Swept};
 use crate::call::{Call, Input, Job};
 use crate::compare::Comparison;
 use crate::damage::{moved, moved_back, Damage, Place};
@@ -41,6 +41,7 @@ pub fn verifying(c: &mut Comparison, scale: usize) -> Swept {
         deep_words(c, Shape::random(depth, rate), 200 * scale, &mut rng)?;
     }
     query_lists(c, &mut rng)?;
+    repeats::run(c)?;
     several_words(c, 2_000 * scale, &mut rng)?;
     zero_eq(c, 300 * scale, &mut rng)?;
     forged(c, 1_500 * scale, &mut rng)?;
@@ -81,10 +82,14 @@ pub fn sixteen(c: &mut Comparison) -> Swept {
         Damage::Moved(Input::Opening, Place::Any),
         Damage::Moved(Input::Block, Place::Any),
         Damage::Word(Input::Opening, u32::MAX, Place::Last),
+        Damage::QueryFilled(256),
+        Damage::QueryRepeated,
     ];
     for damage in damages {
         damaged(c, &call, &[damage], &mut rng)?;
     }
+    // Different places that are alike in their low 16 bits.
+    queried(c, &call, (0..8).map(|k| k << 16 | 1).collect())?;
     let call = forge::claim(Shape::random(16, 16), 7, true, &mut rng);
     c.check(&call).map(drop)
 }
@@ -129,8 +134,7 @@ fn every_word(c: &mut Comparison, rng: &mut Rng) -> Swept {
 fn deep_words(c: &mut Comparison, shape: Shape, count: usize, rng: &mut Rng) -> Swept {
     let mut honest = good(c, Job::VerifyOpening, shape, rng)?;
     let sizes = shape.sizes;
-    let below = sizes.block(sizes.depth - 1);
-    let queries = (0..256).map(|_| rng.below(below) as u32).collect();
+    let queries = rng.places(256, sizes.block(sizes.depth - 1));
     honest.lent.words.insert(Input::Queries, queries);
     let opening = (0..=sizes.final_value()).chain(sizes.opening_block(0));
     let mut places: Vec<_> = opening.map(|j| (Input::Opening, j)).collect();
@@ -173,8 +177,9 @@ fn several_words(c: &mut Comparison, count: usize, rng: &mut Rng) -> Swept {
     Ok(())
 }
 
-/// Every place as a single query, places too large at each position, and lists of all lengths
-/// around the edges; for honest claims and for ones with a wrong word in each block.
+/// Every place alone, beside 0, beside itself, and behind all others; places too large; and lists of
+/// lengths around the edges, longer than there are places too; for honest claims and for ones with a
+/// wrong word in each block.
 fn query_lists(c: &mut Comparison, rng: &mut Rng) -> Swept {
     for (depth, rate) in [
         (1, 2),
@@ -208,10 +213,11 @@ fn query_lists(c: &mut Comparison, rng: &mut Rng) -> Swept {
             for place in (0..below + 2).chain([u32::MAX]) {
                 queried(c, claim, vec![place])?;
                 queried(c, claim, vec![0, place])?;
-                queried(c, claim, vec![place; 256])?;
+                queried(c, claim, vec![place; 2])?;
+                let others = (0..below).filter(|&other| other != place);
+                queried(c, claim, others.chain([place]).collect())?;
             }
-            queried(c, claim, (0..below).rev().take(256).collect())?;
-            for count in [0, 1, 2, 255, 256, 257, 1000] {
+            for count in [0, 1, 2, below - 1, below, below + 1, 255, 256, 257, 1000] {
                 queried(c, claim, (0..count).map(|k| k % below).collect())?;
             }
             let mut last = vec![0; 256];

@@ -5,6 +5,7 @@
 mod code;
 mod ground;
 mod opening;
+mod repeats;
 mod verifier;
 
 use std::io::Write;

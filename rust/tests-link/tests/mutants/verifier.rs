@@ -6,17 +6,14 @@ use tvarchula_reference::code::Code;
 use tvarchula_reference::fold::line;
 use tvarchula_reference::sumcheck::eq;
 use tvarchula_reference::verify::{judge_claim, Claim, Verdict};
-use tvarchula_reference::{Answer, Reference, Residue};
+use tvarchula_reference::{Answer, Reference, Refusal, Residue};
 
-const REFERENCE: Runner = run::opening::<Reference>;
+pub const REFERENCE: Runner = run::opening::<Reference>;
 
-/// A verifier that gives another verdict on a well-formed claim.
-fn another(call: &mut Call, verdict: impl Fn(&Code, &Claim) -> Verdict) -> Answer {
-    if call.job != Job::VerifyOpening {
-        return REFERENCE(call);
-    }
+/// What a call of verifying lends, if it is well formed.
+pub fn judged(call: &Call) -> Result<(Code, Claim), Refusal> {
     let words = |input| call.lent.words(input);
-    let judged = judge_claim(
+    judge_claim(
         call.lent.code(),
         words(Input::Block),
         words(Input::Z),
@@ -24,15 +21,22 @@ fn another(call: &mut Call, verdict: impl Fn(&Code, &Claim) -> Verdict) -> Answe
         words(Input::R),
         words(Input::Queries),
         words(Input::Opening),
-    );
-    match judged {
+    )
+}
+
+/// A verifier that gives another verdict on a well-formed claim.
+fn another(call: &mut Call, verdict: impl Fn(&Code, &Claim) -> Verdict) -> Answer {
+    if call.job != Job::VerifyOpening {
+        return REFERENCE(call);
+    }
+    match judged(call) {
         Err(refusal) => refusal.into(),
         Ok((code, claim)) => verdict(&code, &claim).into(),
     }
 }
 
 /// The verdict with only these queries.
-fn with_queries(code: &Code, claim: &Claim, queries: &[usize]) -> Verdict {
+pub fn with_queries(code: &Code, claim: &Claim, queries: &[usize]) -> Verdict {
     let mut claim = claim.clone();
     claim.queries = queries.to_vec();
     claim.verdict(code)
@@ -287,16 +291,9 @@ fn judges_queries_before_words(call: &mut Call) -> Answer {
     })
 }
 
-fn refuses_repeated_queries(call: &mut Call) -> Answer {
-    prefers(call, REFERENCE, 0, 7, |call| {
-        let queries = call.lent.words.get(&Input::Queries);
-        queries.is_some_and(|list| list.len() > 1 && list[1..].contains(&list[0]))
-    })
-}
-
 #[test]
 fn verifiers() {
-    let mutants: [(&str, Runner); 26] = [
+    let mutants: [(&str, Runner); 25] = [
         ("checks only the first query", checks_only_the_first_query),
         ("checks no last query", checks_no_last_query),
         ("checks only the first level", checks_only_the_first_level),
@@ -326,7 +323,6 @@ fn verifiers() {
         ("4 for a large query", judges_query_words_by_4),
         ("3 for a long query list", judges_query_counts_by_3),
         ("7 before 4", judges_queries_before_words),
-        ("refuses repeated queries", refuses_repeated_queries),
         ("accepts all", |call| match REFERENCE(call) {
             answer if answer.number >= 20 => Answer::DONE,
             answer => answer,

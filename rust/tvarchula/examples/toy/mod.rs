@@ -40,6 +40,20 @@ impl Toy {
         (0..len).map(|_| self.below(bound)).collect()
     }
 
+    /// Places below a bound, no two the same: what was drawn before is drawn anew. As many as are asked
+    /// for, or all where there are no more.
+    pub fn places(&mut self, len: usize, bound: u32) -> Vec<u32> {
+        let len = len.min(bound as usize);
+        let mut places = Vec::with_capacity(len);
+        while places.len() < len {
+            let place = self.below(bound);
+            if !places.contains(&place) {
+                places.push(place);
+            }
+        }
+        places
+    }
+
     /// Row and diagonals as in the paper: random words that are not 0, and T' = -T.
     pub fn row(&mut self, depth: u32, rate: u32) -> Row {
         let mut non_zero = |len: usize| -> Vec<u32> {

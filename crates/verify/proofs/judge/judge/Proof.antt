@@ -1,54 +1,36 @@
-use lib.ListN.{length}
+use mathlib.Core.Path.{sym, ap, _∙_}
 use Rattle.residue.specs.Chosen.{chosen}
-use Rattle.parameters.specs.ParameterLaws.{judged-by}
-use Rattle.verify.specs.Verifying.{openedLengths, openedWords, claimWords, queriesOk, judgeVerifying}
-use Rattle.verify.proofs.Judged.{asked-after}
+use Rattle.job.specs.Outcome.{outcome}
+use Rattle.job.specs.OutcomeLaws.{after-refused, after-done}
+use Rattle.verify.specs.Verifying.{judgeVerifying}
+use Rattle.verify.proofs.Judged.{opened-within}
 use borrow.Author.Needs.{needs}
 use Rattle.verify.proofs.judge.judge.Statement.{statement}
 use Rattle.verify.proofs.judge.judge.Tie as tie
 
-lengths-ok-requires : tie.Need-lengths-ok-requires
-lengths-ok-requires c κs = search needs
+judge-opened-requires : tie.Need-judge-opened-requires
+judge-opened-requires c κs = search needs
 
-scan-row-requires : tie.Need-scan-row-requires
-scan-row-requires c κs = search needs
-
-words-ok-requires : tie.Need-words-ok-requires
-words-ok-requires c κs = search needs
-
-judge-requires : tie.Need-judge-requires
-judge-requires c κs = search needs
-
-queries-ok-requires : tie.Need-queries-ok-requires
-queries-ok-requires c κs = search needs
-
-require-requires : tie.Need-require-requires
-require-requires c κs = search needs
-
-then-requires : tie.Need-then-requires
-then-requires c κs = search needs
+enum-known-opened : tie.Need-enum-known-opened
+enum-known-opened c = search needs
 
 returns : tie.Need-returns
-unfolding judgeVerifying openedWords
-returns c =
-    let a = c .before .before .before .before .before .before .before .before .before .before .before .before .before .before .before .args in
-    let 𝓕 = chosen (a .field) in
-    let L = openedLengths (a .depth) (a .rate) (length (a .g .now)) (length (a .t .now)) (length (a .t2 .now)) (length (a .block .now)) (length (a .z .now)) (length (a .r .now)) (length (a .opening .now)) in
-    let W = openedWords 𝓕 (a .g .now) (a .t .now) (a .t2 .now) (a .block .now) (a .z .now) (a .y) (a .r .now) (a .opening .now) in
-    let X = claimWords 𝓕 (a .block .now) (a .z .now) (a .y) (a .r .now) (a .opening .now) in
-    asked-after (a .depth) (a .rate) (a .g .now) (a .t .now) (a .t2 .now) L W (queriesOk (a .depth) (a .rate) (a .queries .now))
-    (judged-by 𝓕 (a .depth) (a .rate) (a .g .now) (a .t .now) (a .t2 .now) L X (c .before .before .before .before .before .before .lengths-ok .ensures) (c .before .before .before .before .before .scan-row .ensures) (c .before .before .before .before .words-ok .ensures) (c .before .before .before .judge .ensures))
-    (c .before .before .queries-ok .ensures) (c .before .require .ensures) (c .then .ensures)
+unfolding judgeVerifying
+returns c = after-refused _ (ap outcome (sym (c .before .opened .given .1)) ∙ c .before .before .before .judge-opened .ensures)
+
+enum-told : tie.Need-enum-told
+enum-told c = search needs
+
+judge-requires : tie.Need-judge-requires
+judge-requires c κs =
+    let a = c .before .before .before .before .before .before .before .before .before .before .before .args in
+    opened-within (chosen (a .field)) (a .depth) (a .rate) (a .g .now) (a .t .now) (a .t2 .now) (a .block .now) (a .z .now) (a .y) (a .r .now) (a .opening .now) (sym (c .before .before .judge-opened .ensures) ∙ ap outcome (c .enum-told .given .1))
+
+returns-2 : tie.Need-returns-2
+unfolding judgeVerifying
+returns-2 c = after-done (ap outcome (sym (c .before .enum-told .given .1)) ∙ c .before .before .before .judge-opened .ensures) (c .judge .ensures)
 
 pub judge-spec : {M : Type 1} → statement M
 judge-spec =
     tie.close
-    (tie.spec
-    lengths-ok-requires
-    scan-row-requires
-    words-ok-requires
-    judge-requires
-    queries-ok-requires
-    require-requires
-    then-requires
-    returns)
+    (tie.spec judge-opened-requires enum-known-opened returns enum-told judge-requires returns-2)

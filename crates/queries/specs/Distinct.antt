@@ -1,4 +1,5 @@
--- No word stands in two places: what it is, and a test of it. Definitions only. Assumes nothing.
+-- Whether a word stands in two places: what it is, and a test of it. Definitions only. Assumes nothing.
+use mathlib.Core.Path.{_≡_}
 use mathlib.Core.Logic.{_≢_}
 use mathlib.Core.Bool.{Bool, true, not, _&&_}
 use mathlib.Core.List.{List, [], _∷_}
@@ -7,7 +8,15 @@ use lib.Dec.{eqb}
 use lib.ListN.{length, getD}
 use Rattle.algebra.specs.Tests.{all}
 
--- any two different places hold different words
+-- two different positions hold the same word
+pub record Repeated (ws : List ℕ) : Type 0 where
+  pub one : ℕ
+  pub other : ℕ
+  pub within : (one < length ws) × (other < length ws)
+  pub different : one ≢ other
+  pub same : getD ws one 0 ≡ getD ws other 0
+
+-- any two different positions hold different words
 pub record Distinct (ws : List ℕ) : Type 0 where
   pub apart : (j k : ℕ) → j < length ws → k < length ws → j ≢ k → getD ws j 0 ≢ getD ws k 0
 

@@ -5,9 +5,9 @@ use borrow.Author.Needs.{needs}
 use lib.Dec.{eqb}
 use lib.ListN.{length, take}
 use Rattle.algebra.specs.Tests.{not-or, all-none, all-turn, all-end}
-use Rattle.places.specs.Distinct.{absent}
-use Rattle.places.proofs.distinct.absent.Statement.{statement}
-use Rattle.places.proofs.distinct.absent.Tie as tie
+use Rattle.queries.specs.Distinct.{absent}
+use Rattle.queries.proofs.distinct.absent.Statement.{statement}
+use Rattle.queries.proofs.distinct.absent.Tie as tie
 
 abbrev Inv-loop : tie.InvT-loop
 Inv-loop x s found₀ k₀ found k = (k ≤ length s) × (not found ≡ absent x (take k s))
