@@ -3,6 +3,8 @@ ghost use mathlib.Core.Path.{_≡_};
 ghost use Prim.Native.Nat.{min};
 ghost use Rattle.places.specs.Places.{highPlace, zeroPlace, equalPlace};
 
+pub mod inputs;
+
 // The first word that is not below the bound; the length where there is none.
 pub fn first_high(s: &[u32], bound: u32) -> usize
     ensures { λ r. ⌜ r ≡ highPlace bound (now (s .entry)) ⌝ }
