@@ -1,5 +1,7 @@
 -- Base row and diagonals by rule, over the second field.
 --     Rule        THE RULE: ones, powers of roots, and their negatives; what is lent, and what is left there
 --     RuleLaws    root-order, level-order; level-of, where the levels stand; legal-rule; values-rule: a codeword is the list of values of one polynomial
+--     Accepted    lengths-rule, words-rule, legal-filled: what is filled is refused by no job
 pub mod Rule
 pub mod RuleLaws
+pub mod Accepted
