@@ -1,5 +1,5 @@
 -- A search that goes on in one input after another until something is found. Assumes nothing.
-use mathlib.Core.Path.{_≡_, refl, sym, ap, _∙_}
+use mathlib.Core.Path.{_≡_, refl, ap, _∙_}
 use mathlib.Core.Bool.{Bool, true, false, cond}
 use mathlib.Core.List.{List, [], _∷_}
 use mathlib.Core.Option.{Option, none, some}
@@ -9,8 +9,7 @@ use lib.Dec.{ltb}
 use lib.ListN.{length}
 use Rattle.places.specs.Places.{highPlace}
 use Rattle.places.specs.PlaceLaws.{place-first, place-none}
-use Rattle.places.specs.Inputs.{Input, under, highIn, orElse, firstWord, told}
-use Rattle.places.specs.declared.inputs.Found.{Found}
+use Rattle.places.specs.Inputs.{Input, under, highIn, orElse, firstWord}
 
 -- where nothing was found before, the word that is found in an input, or nothing
 module _ (bound : ℕ) (x : Input) {k : ℕ} (e : k ≡ highPlace bound (x .1)) where

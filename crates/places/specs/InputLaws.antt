@@ -1,5 +1,5 @@
 -- The search over several inputs finds the first word that is not below the bound, and nothing exactly where there is none. Assumes nothing.
-use mathlib.Core.Path.{_≡_, refl, sym, ap, _∙_}
+use mathlib.Core.Path.{_≡_, refl, sym, ap}
 use mathlib.Core.Bool.{Bool, true, false, _&&_, cond, false≢true}
 use mathlib.Core.Logic.{_↔_}
 use mathlib.Core.List.{List, [], _∷_}
@@ -7,11 +7,11 @@ use mathlib.Core.Option.{Option, none, some}
 use Prim.Native.Nat.{ℕ, zero, suc, _<_}
 use native.Mathlib.Omega.{arith}
 use lib.Dec.{ltb}
-use lib.ListN.{length, getD}
+use lib.ListN.{getD}
 use Rattle.algebra.specs.Tests.{all}
-use Rattle.places.specs.Places.{First, highPlace}
+use Rattle.places.specs.Places.{highPlace}
 use Rattle.places.specs.PlaceLaws.{place-first}
-use Rattle.places.specs.Inputs.{Input, under, highIn, orElse, firstWord, FirstWord}
+use Rattle.places.specs.Inputs.{Input, under, orElse, firstWord, FirstWord}
 
 -- one input more in front, each of its words below the bound
 behind : (bound : ℕ) (x : Input) (xs : List Input) {j n : ℕ} → under bound x ≡ true → FirstWord bound xs j n → FirstWord bound (x ∷ xs) j n

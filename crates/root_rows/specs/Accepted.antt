@@ -1,12 +1,12 @@
 -- What is filled by rule is refused by no job: its lengths, its words, its base row and its diagonals pass the tests for 3, 4, 5 and 6. Assumes nothing.
 use mathlib.Core.Path.{_≡_, refl, sym, ap, ap₂, _∙_}
-use mathlib.Core.Bool.{Bool, true, not, _&&_}
+use mathlib.Core.Bool.{true, not, _&&_}
 use mathlib.Core.List.{List, [], _∷_, _++_, map}
-use Prim.Native.Nat.{ℕ, zero, suc, _+_, _*_, _^_, _<_, _≤_}
+use Prim.Native.Nat.{ℕ, zero, suc, _+_, _^_, _<_, _≤_}
 use native.Mathlib.Omega.{arith}
 use borrow.Author.Tests.{eq-eqb, ne-eqb}
 use lib.Dec.{eqb}
-use lib.ListN.{length, replicate, length-replicate, length-map}
+use lib.ListN.{length, length-replicate}
 use Rattle.algebra.specs.Fields.{F₂}
 use Rattle.algebra.specs.Half.{two}
 use Rattle.algebra.specs.Lists.{Differ}

@@ -1,4 +1,4 @@
-use mathlib.Core.Path.{refl, sym, ap, _∙_}
+use mathlib.Core.Path.{sym, ap, _∙_}
 use Rattle.places.specs.Inputs.{highIn, orElse, told}
 use Rattle.places.proofs.Chained.{found-here, found-not}
 use borrow.Author.Needs.{needs}
