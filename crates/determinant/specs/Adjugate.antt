@@ -27,7 +27,7 @@ module _ (K : Ring) where
   open Vectors (vectors K) using (_⊛_)
 
   -- a row vector times the matrix of the entries m j c: in place c the sum over j
-  times-row : (n k : ℕ) (v : List R) (m : ℕ → ℕ → R) → length v ≡ k
+  pub times-row : (n k : ℕ) (v : List R) (m : ℕ → ℕ → R) → length v ≡ k
       → times K n v (row k (λ j. row n (m j))) ≡ row n (λ c. sum K k (λ j. getD v j 𝟘 * m j c))
   unfolding times row sum
   times-row n zero [] m e = sym (row-replicate n 𝟘)

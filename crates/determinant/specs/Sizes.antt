@@ -52,10 +52,10 @@ module _ (K : Ring) where
   sign-even zero = refl
   sign-even (suc n) = let e : 2 *ℕ suc n ≡ suc (suc (2 *ℕ n)) = omega arith in ap (sign K) e ∙ neg-neg K _ ∙ sign-even n
 
-  plus : (n : ℕ) {x y : R} → x ≡ y → sign K (2 *ℕ n) * x ≡ y
+  pub plus : (n : ℕ) {x y : R} → x ≡ y → sign K (2 *ℕ n) * x ≡ y
   plus n e = ap₂ _*_ (sign-even n) e ∙ one-mul K _
 
-  minus : (n : ℕ) {x y : R} → x ≡ y → sign K (suc (2 *ℕ n)) * x ≡ neg y
+  pub minus : (n : ℕ) {x y : R} → x ≡ y → sign K (suc (2 *ℕ n)) * x ≡ neg y
   unfolding sign
   minus n e = neg-mul K _ _ ∙ ap neg (plus n e)
 

@@ -1,0 +1,3 @@
+-- Lemmas of the proofs about base matrices.
+pub mod Cells
+pub mod Products
