@@ -167,14 +167,15 @@ module _ (𝓕 : PrimeField) where
             low = record { low = λ p h. rw (getD-replicate {A = ℕ} 16 p 0 0 h) (modulus-pos 𝓕) };
           }
 
-      -- the adjugate times the inverse of the determinant
-      module _ {q : ℕ} (f : q ≡ word (inv (el d))) {w : List ℕ} (scaled : w ≡ scaledWords 𝓕 q m) where
+      -- the adjugate divided by the determinant
+      module _ {w : List ℕ} (scaled : w ≡ scaledWords 𝓕 (word (inv (el d))) m) where
         long-scaled : length w ≡ 16
-        long-scaled = ap length scaled ∙ length-scaled 𝓕 q m ∙ sixteen
+        long-scaled = ap length scaled ∙ length-scaled 𝓕 _ m ∙ sixteen
 
         inverse-is : firstColumns 𝓕 k 4 w ≡ inverse F k A
         inverse-is =
-            let quotient : el q ≡ inv (det K k A) = stands 𝓕 _ f ∙ ap inv (stands 𝓕 _ d-is) in
+            let q = word (inv (el d)) in
+            let quotient : el q ≡ inv (det K k A) = W .el-val _ ∙ ap inv (stands 𝓕 _ d-is) in
             first-columns 𝓕 k 4 w most (omega (arith, most, long-scaled))
             ∙ row-ext k _ _ (λ i h. row-ext k _ _ (λ j l.
             stands 𝓕 _ (ap (λ x. getD x (i * 4 + j) 0) scaled ∙ scaled-at 𝓕 q m (i * 4 + j)) ∙ ap₂ _⊠_ quotient (cell-is i j h l)))
@@ -188,5 +189,5 @@ module _ (𝓕 : PrimeField) where
               none = λ h. absurd (false≢true h);
               inverse = λ h. rw inverse-is (invertible F k A square unit);
               sixteen = long-scaled;
-              low = rw scaled (low-scaled 𝓕 q m);
+              low = rw scaled (low-scaled 𝓕 _ m);
             }

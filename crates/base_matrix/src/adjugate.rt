@@ -1,8 +1,9 @@
 // The adjugate of the first k columns, four words a row.
 ghost use mathlib.Core.Path.{_≡_};
+ghost use Prim.Native.Nat.{_<_};
 ghost use Rattle.algebra.specs.Lists.{row};
 ghost use Rattle.algebra.specs.WordLists.{Low};
-ghost use Rattle.residue.specs.Elements.{P, Low as LowResidue};
+ghost use Rattle.residue.specs.Elements.{P, Low as LowResidue, inverseOf};
 ghost use Rattle.residue.specs.Chosen.{chosen};
 ghost use Rattle.cofactor.specs.Rows.{Lent};
 ghost use Rattle.base_matrix.specs.Steps.{cellAt, scaledWords};
@@ -40,7 +41,7 @@ pub fn adjugate(k: usize, n: usize, g: &[u32], field: Field) -> [u32; 16]
 }
 
 // Each word times q.
-pub fn scale(q: Residue, m: &mut [u32], field: Field)
+fn scale(q: Residue, m: &mut [u32], field: Field)
     requires { ⌜ LowResidue (chosen field) q × Low (P (chosen field)) (now m) ⌝ }
     ensures { λ _. ⌜ now (m .exit) ≡ scaledWords (chosen field) (q .0) (now (m .entry)) ⌝ }
 {
@@ -49,4 +50,13 @@ pub fn scale(q: Residue, m: &mut [u32], field: Field)
         m[p] = entry::scaled(q, m[p], field);
         p += 1;
     }
+}
+
+// Each word divided by d: one inversion for all.
+pub fn divide(d: u32, m: &mut [u32], field: Field)
+    requires { ⌜ (d < P (chosen field)) × (0 < d) × Low (P (chosen field)) (now m) ⌝ }
+    ensures { λ _. ⌜ now (m .exit) ≡ scaledWords (chosen field) (inverseOf (chosen field) d) (now (m .entry)) ⌝ }
+{
+    let q = Residue::new(d, field).unit_inverse(field);
+    scale(q, m, field);
 }

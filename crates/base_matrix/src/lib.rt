@@ -4,7 +4,6 @@ ghost use Rattle.residue.specs.Chosen.{chosen};
 ghost use Rattle.cofactor.specs.Rows.{Lent};
 ghost use Rattle.base_matrix.specs.Inverting.{Inverts, SolveLent, solved, BaseOk};
 use residue::Field;
-use residue::Residue;
 
 pub mod adjugate;
 pub mod product;
@@ -15,7 +14,7 @@ pub struct Inverted {
     pub m: [u32; 16],
 }
 
-// g is k rows of n words, one after another. The determinant is the first row times the adjugate's first column, and the only word that is inverted.
+// g is k rows of n words, one after another. The determinant is the first row times the adjugate's first column.
 pub fn invert(k: usize, n: usize, g: &[u32], field: Field) -> Inverted
     requires { ⌜ Lent (chosen field) k n (now g) ⌝ }
     ensures { λ r. ⌜ Inverts (chosen field) k n (now (g .entry)) r ⌝ }
@@ -28,12 +27,8 @@ pub fn invert(k: usize, n: usize, g: &[u32], field: Field) -> Inverted
             m: [0; 16],
         };
     }
-    let q = Residue::new(d, field).unit_inverse(field);
-    adjugate::scale(q, &mut m, field);
-    Inverted {
-        singular: false,
-        m: m,
-    }
+    adjugate::divide(d, &mut m, field);
+    Inverted { singular: false, m }
 }
 
 // The k words of b times the matrix in m, in their place.

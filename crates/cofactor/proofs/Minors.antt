@@ -56,25 +56,23 @@ size-one one p q = refl
 size-one two p q = absurd (q refl)
 size-one four p q = absurd (p refl)
 
--- what is read for row i without column j
-module _ (𝓕 : PrimeField) (n : ℕ) (g : List ℕ) (i j : ℕ) (within : i * n + 4 ≤ length g) where
-  open PrimeField 𝓕 using (modulus as P)
+-- a row of four words that begins at b, read without its place j
+pub place-within : (g : List ℕ) (b j : ℕ) → b + 4 ≤ length g → {r s : ℕ} → r < 3 → s ≡ skip j r → b + s < length g
+place-within g b j within {r} h e = omega (arith, skip-most j r)
 
-  pub place-within : {r s : ℕ} → r < 3 → s ≡ skip j r → i * n + s < length g
-  place-within {r} h e = omega (arith, skip-most j r)
-
-  pub row-read : Low P g → {a b c : ℕ} {t : Triple} → a ≡ skip j 0 → b ≡ skip j 1 → c ≡ skip j 2
-      → t .a .0 ≡ getD g (i * n + a) 0 → t .b .0 ≡ getD g (i * n + b) 0 → t .c .0 ≡ getD g (i * n + c) 0 → RowOf 𝓕 n g i j t
-  row-read l p q s x y z = record {
-    first = x ∙ ap (λ o. getD g (i * n + o) 0) p;
-    second = y ∙ ap (λ o. getD g (i * n + o) 0) q;
-    third = z ∙ ap (λ o. getD g (i * n + o) 0) s;
-    low = record {
-      low-a = rw x (l .low _ (place-within (omega arith) p));
-      low-b = rw y (l .low _ (place-within (omega arith) q));
-      low-c = rw z (l .low _ (place-within (omega arith) s));
-    };
-  }
+pub row-read : (𝓕 : PrimeField) (n : ℕ) (g : List ℕ) (i j : ℕ) → i * n + 4 ≤ length g → Low (𝓕 .modulus) g → {a b c : ℕ} {t : Triple}
+    → a ≡ skip j 0 → b ≡ skip j 1 → c ≡ skip j 2
+    → t .a .0 ≡ getD g (i * n + a) 0 → t .b .0 ≡ getD g (i * n + b) 0 → t .c .0 ≡ getD g (i * n + c) 0 → RowOf 𝓕 n g i j t
+row-read 𝓕 n g i j within l p q s x y z = record {
+  first = x ∙ ap (λ o. getD g (i * n + o) 0) p;
+  second = y ∙ ap (λ o. getD g (i * n + o) 0) q;
+  third = z ∙ ap (λ o. getD g (i * n + o) 0) s;
+  low = record {
+    low-a = rw x (l .low _ (place-within g (i * n) j within (omega arith) p));
+    low-b = rw y (l .low _ (place-within g (i * n) j within (omega arith) q));
+    low-c = rw z (l .low _ (place-within g (i * n) j within (omega arith) s));
+  };
+}
 
 -- row s of k
 pub rows-within : (k n i r : ℕ) (g : List ℕ) {s : ℕ} → length g ≡ k * n → k ≤ n → s ≡ skip i r → r + 1 < k → s * n + k ≤ length g

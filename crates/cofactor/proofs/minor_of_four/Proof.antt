@@ -12,7 +12,7 @@ row-of-requires : tie.Need-row-of-requires
 row-of-requires c κs =
     let s = c .before .before in
     let 𝓛 = s .pre .lent in
-    (rows-within 4 (s .args .n) (s .args .i) 0 (s .args .g .now) (𝓛 .long) (𝓛 .few) (c .skip .ensures) (omega arith), 𝓛 .low)
+    (rows-within 4 (s .args .n) (s .args .i) _ (s .args .g .now) (𝓛 .long) (𝓛 .few) (c .skip .ensures) (omega arith), 𝓛 .low)
 
 skip-requires-2 : tie.Need-skip-requires-2
 skip-requires-2 c κs = search needs
@@ -21,7 +21,7 @@ row-of-requires-2 : tie.Need-row-of-requires-2
 row-of-requires-2 c κs =
     let s = c .before .before .before .before in
     let 𝓛 = s .pre .lent in
-    (rows-within 4 (s .args .n) (s .args .i) 1 (s .args .g .now) (𝓛 .long) (𝓛 .few) (c .skip2 .ensures) (omega arith), 𝓛 .low)
+    (rows-within 4 (s .args .n) (s .args .i) _ (s .args .g .now) (𝓛 .long) (𝓛 .few) (c .skip2 .ensures) (omega arith), 𝓛 .low)
 
 skip-requires-3 : tie.Need-skip-requires-3
 skip-requires-3 c κs = search needs
@@ -30,7 +30,7 @@ row-of-requires-3 : tie.Need-row-of-requires-3
 row-of-requires-3 c κs =
     let s = c .before .before .before .before .before .before in
     let 𝓛 = s .pre .lent in
-    (rows-within 4 (s .args .n) (s .args .i) 2 (s .args .g .now) (𝓛 .long) (𝓛 .few) (c .skip3 .ensures) (omega arith), 𝓛 .low)
+    (rows-within 4 (s .args .n) (s .args .i) _ (s .args .g .now) (𝓛 .long) (𝓛 .few) (c .skip3 .ensures) (omega arith), 𝓛 .low)
 
 det3-requires : tie.Need-det3-requires
 det3-requires c κs = search needs
