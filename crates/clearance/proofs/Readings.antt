@@ -4,49 +4,56 @@ use mathlib.Core.Bool.{Bool, true, false}
 use Prim.Native.Nat.{ℕ, zero, suc, _-_, _<_, _≤_}
 use native.Mathlib.Omega.{arith}
 use lib.Dec.{ltb}
+use lib.IntN.{pos}
 use borrow.Author.Tests.{ltb-true, lt-ltb}
+use Rattle.algebra.specs.Words.{PrimeField}
 use Rattle.job.specs.Outcome.{refused, done}
 use Rattle.job.specs.OutcomeLaws.{stop, pass}
 use Rattle.residue.specs.declared.Residue.{Residue}
 use Rattle.residue.specs.declared.Parsed.the-variants.{Residue as Is, TooLarge}
-use Rattle.algebra.specs.Words.{𝔽₁}
-use Rattle.residue.specs.Residues.{P}
 use Rattle.residue.specs.Elements.{parsed, parsedBy}
 use Rattle.clearance.specs.Clearances.{border, meaning, free, contact, overlap}
-use Rattle.clearance.specs.ClearanceLaws.{clearance-pos, clearance-negsuc}
+use Rattle.clearance.specs.ClearanceLaws.{by-pos, by-negsuc}
 use Rattle.clearance.specs.Reading.{reading}
 
-pub no-residue : (w : ℕ) → TooLarge ≡ parsed 𝔽₁ w → refused (4, 0, 0) ≡ reading w
-no-residue w e = go (ltb w P) refl e
-  where
-    go : (b : Bool) → ltb w P ≡ b → TooLarge ≡ parsedBy 𝔽₁ b w → refused (4, 0, 0) ≡ reading w
-    go true p q = absurd (let z : _≡_ {A = ℕ} 0 1 = cc in omega arith)
-    go false p q = stop _ p
-
 -- a word that is a residue is that residue's
-pub record Same (w v : ℕ) : Type 0 where
+pub record Same (p w v : ℕ) : Type 0 where
   pub is : v ≡ w
-  pub low : w < P
+  pub low : w < p
 
-pub a-residue : (w : ℕ) (r : Residue) → Is r ≡ parsed 𝔽₁ w → Same w (r .0)
-a-residue w r e = go (ltb w P) refl e
-  where
-    go : (b : Bool) → ltb w P ≡ b → Is r ≡ parsedBy 𝔽₁ b w → Same w (r .0)
-    go true p q = let s : r ≡ record { 0 = w } = cc in record { is = ap (λ x. x .0) s; low = ltb-true w P p }
-    go false p q = absurd (let z : _≡_ {A = ℕ} 0 1 = cc in omega arith)
+module _ (𝓕 : PrimeField) where
+  open PrimeField 𝓕 using (modulus as P, above)
 
-pub reads-contact : (w : ℕ) → w ≡ 0 → done contact ≡ reading w
-reads-contact w e = ap reading (sym e)
+  pub no-residue : (w : ℕ) → TooLarge ≡ parsed 𝓕 w → refused (4, 0, 0) ≡ reading 𝓕 w
+  no-residue w e = go (ltb w P) refl e
+    where
+      go : (b : Bool) → ltb w P ≡ b → TooLarge ≡ parsedBy 𝓕 b w → refused (4, 0, 0) ≡ reading 𝓕 w
+      go true p q = absurd (let z : _≡_ {A = ℕ} 0 1 = cc in omega arith)
+      go false p q = stop _ p
 
-pub reads-free : (w : ℕ) → 0 < w → w < border → done (free w) ≡ reading w
-reads-free zero l h = absurd (omega arith)
-reads-free (suc n) l h = pass 4 (lt-ltb (suc n) P (omega arith)) (sym (ap (λ x. done (meaning x)) (clearance-pos (suc n) h)))
+  pub a-residue : (w : ℕ) (r : Residue) → Is r ≡ parsed 𝓕 w → Same P w (r .0)
+  a-residue w r e = go (ltb w P) refl e
+    where
+      go : (b : Bool) → ltb w P ≡ b → Is r ≡ parsedBy 𝓕 b w → Same P w (r .0)
+      go true p q = let s : r ≡ record { 0 = w } = cc in record { is = ap (λ x. x .0) s; low = ltb-true w P p }
+      go false p q = absurd (let z : _≡_ {A = ℕ} 0 1 = cc in omega arith)
 
-pub reads-overlap : (w : ℕ) → border ≤ w → w < P → done (overlap (P - w)) ≡ reading w
-reads-overlap w h l = go (P - w) refl
-  where
-    go : (k : ℕ) → P - w ≡ k → done (overlap (P - w)) ≡ reading w
-    go zero e = absurd (omega arith)
-    go (suc n) e =
-        ap (λ k. done (overlap k)) e
-        ∙ pass 4 (lt-ltb w P l) (sym (ap (λ x. done (meaning x)) (clearance-negsuc w n h e)))
+  -- a word below the border is its distance
+  below-border : (w : ℕ) → w < border 𝓕 → done (meaning (pos w)) ≡ reading 𝓕 w
+  below-border w h = pass 4 (lt-ltb w P (omega (arith, above))) (sym (ap (λ x. done (meaning x)) (by-pos _ P w h)))
+
+  pub reads-contact : (w : ℕ) → w ≡ 0 → done contact ≡ reading 𝓕 w
+  reads-contact w e = below-border 0 (omega (arith, above)) ∙ ap (reading 𝓕) (sym e)
+
+  pub reads-free : (w : ℕ) → 0 < w → w < border 𝓕 → done (free w) ≡ reading 𝓕 w
+  reads-free zero l h = absurd (omega arith)
+  reads-free (suc n) l h = below-border (suc n) h
+
+  pub reads-overlap : (w : ℕ) → border 𝓕 ≤ w → w < P → done (overlap (P - w)) ≡ reading 𝓕 w
+  reads-overlap w h l = go (P - w) refl
+    where
+      go : (k : ℕ) → P - w ≡ k → done (overlap (P - w)) ≡ reading 𝓕 w
+      go zero e = absurd (omega arith)
+      go (suc n) e =
+          ap (λ k. done (overlap k)) e
+          ∙ pass 4 (lt-ltb w P l) (sym (ap (λ x. done (meaning x)) (by-negsuc _ P w n h e)))

@@ -1,38 +1,43 @@
-// One clearance to a residue, and back.
+// One clearance to a word, and back. What a loop over them calls takes numbers, not the field: none of its turns asks for the field.
 ghost use mathlib.Core.Path.{_≡_};
-ghost use mathlib.Core.Bool.{true};
-ghost use Rattle.residue.specs.Residues.{Low};
-ghost use Rattle.clearance.specs.Clearances.{inRange, residueOf, clearanceOf};
-use crate::MAX_CLEARANCE;
+ghost use Prim.Native.Nat.{_<_, _≤_};
+ghost use lib.IntN.{pos, natAbs};
+ghost use Rattle.residue.specs.Chosen.{chosen};
+ghost use Rattle.clearance.specs.Clearances.{maxClearance, between, residueBy, clearanceBy};
 use residue::Field;
-use residue::Residue;
 
-pub fn in_range(x: i32) -> bool
-    ensures { λ r. ⌜ r ≡ inRange x ⌝ }
+// The largest distance, in micrometres, and the largest overlap.
+pub fn max_clearance(field: Field) -> i32
+    ensures { λ r. ⌜ r ≡ pos (maxClearance (chosen field)) ⌝ }
 {
-    (-MAX_CLEARANCE <= x) & (x <= MAX_CLEARANCE)
-}
-
-pub fn to_residue(x: i32) -> Residue
-    requires { ⌜ inRange x ≡ true ⌝ }
-    ensures { λ r. ⌜ r .0 ≡ residueOf x ⌝ }
-{
-    if x < 0 {
-        Residue::new(Residue::MODULUS - ((-x) as u32), Field::First)
-    } else {
-        Residue::new(x as u32, Field::First)
+    match field {
+        Field::First => 1073741823,
+        Field::Second => 1006632960,
     }
 }
 
-// Residue::HALF, the middle of the residues, is the first that is an overlap.
-pub fn to_clearance(a: Residue) -> i32
-    requires { ⌜ Low a ⌝ }
-    ensures { λ r. ⌜ r ≡ clearanceOf (a .0) ⌝ }
+pub fn in_range(x: i32, min: i32, max: i32) -> bool
+    ensures { λ r. ⌜ r ≡ between min max x ⌝ }
 {
-    let w = a.word();
-    if w < Residue::HALF.word() {
+    (min <= x) & (x <= max)
+}
+
+// p is the modulus.
+pub fn to_word(x: i32, p: u32) -> u32
+    requires { ⌜ (natAbs x < p) × (p ≤ 2147483647) ⌝ }
+    ensures { λ w. ⌜ w ≡ residueBy p x ⌝ }
+{
+    if x < 0 { p - ((-x) as u32) } else { x as u32 }
+}
+
+// From border on a residue is an overlap.
+pub fn to_clearance(w: u32, border: u32, p: u32) -> i32
+    requires { ⌜ (w < p) × (p ≤ 2147483647) ⌝ }
+    ensures { λ x. ⌜ x ≡ clearanceBy border p w ⌝ }
+{
+    if w < border {
         w as i32
     } else {
-        -((Residue::MODULUS - w) as i32)
+        -((p - w) as i32)
     }
 }

@@ -1,5 +1,7 @@
 // Reading a residue as a clearance.
 ghost use mathlib.Core.Path.{_≡_};
+ghost use Rattle.algebra.specs.Words.{𝔽₁};
+ghost use Rattle.residue.specs.Chosen.{chosen};
 ghost use Rattle.clearance.specs.Reading.{reading, readingOutcome};
 use job::Refusal;
 use residue::Field;
@@ -14,19 +16,26 @@ pub enum Reading {
     Refused(Refusal),
 }
 
-pub fn read_clearance(word: u32) -> Reading
-    ensures { λ r. ⌜ readingOutcome r ≡ reading word ⌝ }
+fn read(word: u32, field: Field) -> Reading
+    ensures { λ r. ⌜ readingOutcome r ≡ reading (chosen field) word ⌝ }
 {
-    let r = match Residue::from_word(word, Field::First) {
+    let r = match Residue::from_word(word, field) {
         Parsed::Residue(r) => r,
         Parsed::TooLarge => return Reading::Refused(Refusal::Word),
     };
     let w = r.word();
     if w == 0 {
         Reading::Contact
-    } else if w < Residue::HALF.word() {
+    } else if w < Residue::half(field).word() {
         Reading::Free(w)
     } else {
-        Reading::Overlap(Residue::MODULUS - w)
+        let amount = Residue::modulus(field) - w;
+        Reading::Overlap(amount)
     }
+}
+
+pub fn read_clearance(word: u32) -> Reading
+    ensures { λ r. ⌜ readingOutcome r ≡ reading 𝔽₁ word ⌝ }
+{
+    read(word, Field::First)
 }

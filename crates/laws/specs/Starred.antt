@@ -88,7 +88,7 @@ abbrev pub Holds : Case → Type 0
 Holds (gives a b) = a ≡ b
 Holds (reads a b) = a ≡ b
 Holds (says a b) = a ≡ b
-Holds (coefficients e c) = MessageOf e c
+Holds (coefficients e c) = MessageOf 𝔽₁ e c
 Holds (decodes b c) =
     (old space : List ℕ) → length old ≡ 2 → length space ≡ 4 → Decoded 𝔽₁ 1 2 g t t' b old space Done c (replicate (length space) 0)
 Holds (refuses b) =
@@ -100,8 +100,8 @@ AllProved (c ∷ cs) = Holds c × AllProved cs
 
 abbrev pub starredNumbers : List Case
 starredNumbers =
-    gives (residueOf (negsuc 0) ∷ []) (2147483646 ∷ [])
-    ∷ reads (clearanceOf 1073741824) (negsuc 1073741822)
+    gives (residueOf 𝔽₁ (negsuc 0) ∷ []) (2147483646 ∷ [])
+    ∷ reads (clearanceOf 𝔽₁ 1073741824) (negsuc 1073741822)
     ∷ coefficients (pos 3 ∷ pos 5 ∷ pos 4 ∷ pos 10 ∷ []) (3 ∷ 2 ∷ 1 ∷ 4 ∷ [])
     ∷ gives (codeword 𝔽₁ 1 g t t' m) w
     ∷ decodes w m
@@ -133,7 +133,7 @@ fold-1 : foldedLevel 𝔽₁ 2 0 t t' w 1 ≡ 12 ∷ 12 ∷ []
 unfolding F₁ W₁ elements toWords diagonal encode generator block times zip of addZ mulZ
 fold-1 = ap (λ b. foldedLevel 𝔽₁ 2 0 t t' b 1) (sym encodes) ∙ fold-law 𝔽₁ 0 2 g t t' legal m 1 refl ∙ refl
 
-coefficients-are : MessageOf (pos 3 ∷ pos 5 ∷ pos 4 ∷ pos 10 ∷ []) (3 ∷ 2 ∷ 1 ∷ 4 ∷ [])
+coefficients-are : MessageOf 𝔽₁ (pos 3 ∷ pos 5 ∷ pos 4 ∷ pos 10 ∷ []) (3 ∷ 2 ∷ 1 ∷ 4 ∷ [])
 unfolding F₁ W₁ elements table form monomial corner row sum prod bit exponentTo of addZ mulZ
 coefficients-are = record {
   size = refl;

@@ -7,44 +7,45 @@ use lib.Dec.{eqb}
 use lib.IntN.{ℤ}
 use lib.ListN.{length, replicate}
 use Rattle.algebra.specs.Tests.{all}
-use Rattle.algebra.specs.Words.{𝔽₁}
+use Rattle.algebra.specs.Words.{PrimeField}
 use Rattle.algebra.specs.WordLists.{Low, elements, toWords}
 use Rattle.multilinear.specs.Table.{table}
 use Rattle.job.specs.declared.Answer.{Answer}
 use Rattle.job.specs.Outcome.{Outcome, refused, done, require, _⨾_, outcome, kept}
-use Rattle.residue.specs.Residues.{P, K, el}
+use Rattle.residue.specs.Elements.{P, K, el}
 use Rattle.words.specs.Scans.{allBelow}
 use Rattle.clearance.specs.Clearances.{inRange, residueOf, clearanceOf}
 use Rattle.table.specs.Depth.{isPower, exponent}
-
--- the outcome for a table, and for the length of the message's buffer
-abbrev pub judgeTable : List ℤ → ℕ → Outcome (Unit {0})
-judgeTable t n = require (isPower (length t)) 1 ⨾ require (eqb n (length t)) 3 ⨾ require (all inRange t) 9
-
--- m is the message of the table t: the polynomial with these coefficients has entry b as its value at corner b
-pub record MessageOf (t : List ℤ) (m : List ℕ) : Type 0 where
-  pub size : length m ≡ 2 ^ exponent (length t)
-  pub low : Low P m
-  pub values : table K (exponent (length t)) (elements 𝔽₁ m) ≡ map (λ x. el (residueOf x)) t
 
 -- the buffer is as it was where a refusal is due, and else as made
 abbrev pub Leaves : {A B : Type 0} → Outcome A → (old new : List B) → Type 0 → Type 0
 Leaves (refused n) old new made = new ≡ old
 Leaves (done a) old new made = made
 
-pub record ToCoefficients (t : List ℤ) (old new : List ℕ) (r : Answer) : Type 0 where
-  pub answer : outcome r ≡ judgeTable t (length old)
-  pub message : Leaves (judgeTable t (length old)) old new (MessageOf t new)
+module _ (𝓕 : PrimeField) where
+  -- the outcome for a table, and for the length of the message's buffer
+  abbrev pub judgeTable : List ℤ → ℕ → Outcome (Unit {0})
+  judgeTable t n = require (isPower (length t)) 1 ⨾ require (eqb n (length t)) 3 ⨾ require (all (inRange 𝓕) t) 9
 
--- the outcome for a message, and for the lengths of the clearances' and the work buffer
-abbrev pub judgeMessage : List ℕ → ℕ → ℕ → Outcome (Unit {0})
-judgeMessage m n k = require (isPower (length m)) 1 ⨾ require (eqb n (length m) && eqb k (length m)) 3 ⨾ require (allBelow 𝔽₁ m) 4
+  -- m is the message of the table t: the polynomial with these coefficients has entry b as its value at corner b
+  pub record MessageOf (t : List ℤ) (m : List ℕ) : Type 0 where
+    pub size : length m ≡ 2 ^ exponent (length t)
+    pub low : Low (P 𝓕) m
+    pub values : table (K 𝓕) (exponent (length t)) (elements 𝓕 m) ≡ map (λ x. el 𝓕 (residueOf 𝓕 x)) t
 
--- the table of a message, as clearances
-abbrev pub tableOf : List ℕ → List ℤ
-tableOf m = map clearanceOf (toWords 𝔽₁ (table K (exponent (length m)) (elements 𝔽₁ m)))
+  pub record ToCoefficients (t : List ℤ) (old new : List ℕ) (r : Answer) : Type 0 where
+    pub answer : outcome r ≡ judgeTable t (length old)
+    pub message : Leaves (judgeTable t (length old)) old new (MessageOf t new)
 
-pub record ToTable (m : List ℕ) (old new : List ℤ) (work left : List ℕ) (r : Answer) : Type 0 where
-  pub answer : outcome r ≡ judgeMessage m (length old) (length work)
-  pub clearances : new ≡ kept (judgeMessage m (length old) (length work)) old (tableOf m)
-  pub cleared : left ≡ kept (judgeMessage m (length old) (length work)) work (replicate (length work) 0)
+  -- the outcome for a message, and for the lengths of the clearances' and the work buffer
+  abbrev pub judgeMessage : List ℕ → ℕ → ℕ → Outcome (Unit {0})
+  judgeMessage m n k = require (isPower (length m)) 1 ⨾ require (eqb n (length m) && eqb k (length m)) 3 ⨾ require (allBelow 𝓕 m) 4
+
+  -- the table of a message, as clearances
+  abbrev pub tableOf : List ℕ → List ℤ
+  tableOf m = map (clearanceOf 𝓕) (toWords 𝓕 (table (K 𝓕) (exponent (length m)) (elements 𝓕 m)))
+
+  pub record ToTable (m : List ℕ) (old new : List ℤ) (work left : List ℕ) (r : Answer) : Type 0 where
+    pub answer : outcome r ≡ judgeMessage m (length old) (length work)
+    pub clearances : new ≡ kept (judgeMessage m (length old) (length work)) old (tableOf m)
+    pub cleared : left ≡ kept (judgeMessage m (length old) (length work)) work (replicate (length work) 0)

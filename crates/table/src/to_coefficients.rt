@@ -8,7 +8,8 @@ ghost use Rattle.algebra.specs.Words.{𝔽₁};
 ghost use Rattle.algebra.specs.WordLists.{elements, toWords};
 ghost use Rattle.multilinear.specs.Table.{coefficients};
 ghost use Rattle.job.specs.Outcome.{outcome};
-ghost use Rattle.residue.specs.Residues.{K};
+ghost use Rattle.residue.specs.Elements.{K};
+ghost use Rattle.residue.specs.Chosen.{chosen};
 ghost use Rattle.clearance.specs.Clearances.{inRange, residueOf};
 ghost use Rattle.table.specs.Depth.{isPower, exponent};
 ghost use Rattle.table.specs.Jobs.{judgeTable, ToCoefficients};
@@ -18,37 +19,38 @@ use crate::transform::Way;
 use clearance::slices;
 use job::Answer;
 use job::Refusal;
+use residue::Field;
 
 // The tests are made before any refusal, which costs a refused call one scan.
-fn judge(clearances: &[i32], len: usize) -> Answer
-    ensures { λ r. ⌜ outcome r ≡ judgeTable (now (clearances .entry)) len ⌝ }
+fn judge(clearances: &[i32], len: usize, field: Field) -> Answer
+    ensures { λ r. ⌜ outcome r ≡ judgeTable (chosen field) (now (clearances .entry)) len ⌝ }
 {
     let power = length::is_power(clearances.len());
     let same = len == clearances.len();
-    let in_range = slices::all_in_range(clearances);
+    let in_range = slices::all_in_range(clearances, field);
     let range = job::require(in_range, Refusal::Clearance, Answer::Done);
     let lengths = job::require(same, Refusal::Length, range);
     job::require(power, Refusal::Depth, lengths)
 }
 
-fn find(clearances: &[i32], message: &mut [u32])
+fn find(clearances: &[i32], message: &mut [u32], field: Field)
     requires { ⌜ isPower (length (now clearances)) ≡ true ⌝ }
     requires { ⌜ length (now message) ≡ length (now clearances) ⌝ }
-    requires { ⌜ all inRange (now clearances) ≡ true ⌝ }
-    ensures { λ _. ⌜ now (message .exit) ≡ toWords 𝔽₁ (coefficients K (exponent (length (now (clearances .entry)))) (elements 𝔽₁ (map residueOf (now (clearances .entry))))) ⌝ }
+    requires { ⌜ all (inRange (chosen field)) (now clearances) ≡ true ⌝ }
+    ensures { λ _. ⌜ now (message .exit) ≡ toWords (chosen field) (coefficients (K (chosen field)) (exponent (length (now (clearances .entry)))) (elements (chosen field) (map (residueOf (chosen field)) (now (clearances .entry))))) ⌝ }
 {
     let depth = length::depth_of(clearances.len());
-    slices::to_words(clearances, message);
-    transform::transform(Way::ToCoefficients, depth, message);
+    slices::to_words(clearances, message, field);
+    transform::transform(Way::ToCoefficients, depth, message, field);
 }
 
 pub fn table_to_coefficients(clearances: &[i32], message: &mut [u32]) -> Answer
-    ensures { λ r. ⌜ ToCoefficients (now (clearances .entry)) (now (message .entry)) (now (message .exit)) r ⌝ }
+    ensures { λ r. ⌜ ToCoefficients 𝔽₁ (now (clearances .entry)) (now (message .entry)) (now (message .exit)) r ⌝ }
 {
-    let verdict = judge(clearances, message.len());
+    let verdict = judge(clearances, message.len(), Field::First);
     match verdict {
         Answer::Done => {
-            find(clearances, message);
+            find(clearances, message, Field::First);
             Answer::Done
         }
         Answer::Refused(r) => Answer::Refused(r),

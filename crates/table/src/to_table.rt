@@ -2,9 +2,11 @@
 ghost use mathlib.Core.Path.{_≡_};
 ghost use mathlib.Core.Bool.{true};
 ghost use lib.ListN.{length, replicate};
+ghost use Rattle.algebra.specs.Words.{𝔽₁};
 ghost use Rattle.algebra.specs.WordLists.{Low};
 ghost use Rattle.job.specs.Outcome.{outcome};
-ghost use Rattle.residue.specs.Residues.{P};
+ghost use Rattle.residue.specs.Elements.{P};
+ghost use Rattle.residue.specs.Chosen.{chosen};
 ghost use Rattle.table.specs.Depth.{isPower};
 ghost use Rattle.table.specs.Jobs.{judgeMessage, tableOf, ToTable};
 use crate::length;
@@ -17,35 +19,35 @@ use residue::Field;
 use words::scan;
 
 // The tests are made before any refusal, which costs a refused call one scan.
-fn judge(message: &[u32], table: usize, work: usize) -> Answer
-    ensures { λ r. ⌜ outcome r ≡ judgeMessage (now (message .entry)) table work ⌝ }
+fn judge(message: &[u32], table: usize, work: usize, field: Field) -> Answer
+    ensures { λ r. ⌜ outcome r ≡ judgeMessage (chosen field) (now (message .entry)) table work ⌝ }
 {
     let power = length::is_power(message.len());
     let same = (table == message.len()) & (work == message.len());
-    let below = scan::all_below(message, Field::First);
+    let below = scan::all_below(message, field);
     let words = job::require(below, Refusal::Word, Answer::Done);
     let lengths = job::require(same, Refusal::Length, words);
     job::require(power, Refusal::Depth, lengths)
 }
 
-fn find(message: &[u32], clearances: &mut [i32], work: &mut [u32])
-    requires { ⌜ (isPower (length (now message)) ≡ true) × Low P (now message) ⌝ }
+fn find(message: &[u32], clearances: &mut [i32], work: &mut [u32], field: Field)
+    requires { ⌜ (isPower (length (now message)) ≡ true) × Low (P (chosen field)) (now message) ⌝ }
     requires { ⌜ (length (now clearances) ≡ length (now message)) × (length (now work) ≡ length (now message)) ⌝ }
-    ensures { λ _. ⌜ (now (clearances .exit) ≡ tableOf (now (message .entry))) × (now (work .exit) ≡ replicate (length (now (work .entry))) 0) ⌝ }
+    ensures { λ _. ⌜ (now (clearances .exit) ≡ tableOf (chosen field) (now (message .entry))) × (now (work .exit) ≡ replicate (length (now (work .entry))) 0) ⌝ }
 {
     let depth = length::depth_of(message.len());
     words::copy(message, work);
-    transform::transform(Way::ToTable, depth, work);
-    slices::to_clearances(work, clearances);
+    transform::transform(Way::ToTable, depth, work, field);
+    slices::to_clearances(work, clearances, field);
 }
 
 pub fn coefficients_to_table(message: &[u32], clearances: &mut [i32], work: &mut [u32]) -> Answer
-    ensures { λ r. ⌜ ToTable (now (message .entry)) (now (clearances .entry)) (now (clearances .exit)) (now (work .entry)) (now (work .exit)) r ⌝ }
+    ensures { λ r. ⌜ ToTable 𝔽₁ (now (message .entry)) (now (clearances .entry)) (now (clearances .exit)) (now (work .entry)) (now (work .exit)) r ⌝ }
 {
-    let verdict = judge(message, clearances.len(), work.len());
+    let verdict = judge(message, clearances.len(), work.len(), Field::First);
     match verdict {
         Answer::Done => {
-            find(message, clearances, work);
+            find(message, clearances, work, Field::First);
             Answer::Done
         }
         Answer::Refused(r) => Answer::Refused(r),

@@ -39,24 +39,23 @@ readingReply (done (free n)) = record { number = 0; kind = 1; amount = n }
 readingReply (done contact) = record { number = 0; kind = 3; amount = 0 }
 readingReply (done (overlap n)) = record { number = 0; kind = 2; amount = n }
 
--- a call of a job: the reply tells some answer, and with that answer the job's own contract holds
-
-pub record ToCoefficientsCall (t : List ℤ) (old new : List ℕ) (r : Reply) : Type 0 where
-  pub job : Answer
-  pub answer : r ≡ reply (outcome job)
-  pub result : ToCoefficients t old new job
-
-pub record ToTableCall (m : List ℕ) (old new : List ℤ) (work left : List ℕ) (r : Reply) : Type 0 where
-  pub job : Answer
-  pub answer : r ≡ reply (outcome job)
-  pub result : ToTable m old new work left job
-
 -- a single result, by the reply: the value where its number is 0, and else as it was
 pub data Single (answer : Outcome ℕ) (r : Reply) (old value : ℕ) : Type 0 where
   written : r .number ≡ 0 → answer ≡ done value → Single answer r old value
   left : (r .number ≡ 0 → ⊥) → (n : Numbers) → r ≡ triple n → answer ≡ refused n → value ≡ old → Single answer r old value
 
+-- a call of a job: the reply tells some answer, and with that answer the job's own contract holds
 module _ (𝓕 : PrimeField) where
+  pub record ToCoefficientsCall (t : List ℤ) (old new : List ℕ) (r : Reply) : Type 0 where
+    pub job : Answer
+    pub answer : r ≡ reply (outcome job)
+    pub result : ToCoefficients 𝓕 t old new job
+
+  pub record ToTableCall (m : List ℕ) (old new : List ℤ) (work left : List ℕ) (r : Reply) : Type 0 where
+    pub job : Answer
+    pub answer : r ≡ reply (outcome job)
+    pub result : ToTable 𝓕 m old new work left job
+
   pub record EncodeCall (d c : ℕ) (g t t' m old : List ℕ) (r : Reply) (out : List ℕ) : Type 0 where
     pub job : Answer
     pub answer : r ≡ reply (outcome job)

@@ -18,7 +18,7 @@ pub struct ReadingReply {
 
 #[no_mangle]
 pub extern "C" fn tv_read_clearance(word: u32) -> ReadingReply
-    ensures { λ r. ⌜ r ≡ readingReply (reading word) ⌝ }
+    ensures { λ r. ⌜ r ≡ readingReply (reading 𝔽₁ word) ⌝ }
 {
     let r = clearance::reading::read_clearance(word);
     match r {
@@ -47,7 +47,7 @@ pub extern "C" fn tv_read_clearance(word: u32) -> ReadingReply
 
 #[no_mangle]
 pub extern "C" fn tv_table_to_coefficients(clearances: &[i32], message: &mut [u32]) -> Reply
-    ensures { λ r. ⌜ ToCoefficientsCall (now (clearances .entry)) (now (message .entry)) (now (message .exit)) r ⌝ }
+    ensures { λ r. ⌜ ToCoefficientsCall 𝔽₁ (now (clearances .entry)) (now (message .entry)) (now (message .exit)) r ⌝ }
 {
     answer::plain(table::to_coefficients::table_to_coefficients(clearances, message))
 }
@@ -58,7 +58,7 @@ pub extern "C" fn tv_coefficients_to_table(
     clearances: &mut [i32],
     work: &mut [u32],
 ) -> Reply
-    ensures { λ r. ⌜ ToTableCall (now (message .entry)) (now (clearances .entry)) (now (clearances .exit)) (now (work .entry)) (now (work .exit)) r ⌝ }
+    ensures { λ r. ⌜ ToTableCall 𝔽₁ (now (message .entry)) (now (clearances .entry)) (now (clearances .exit)) (now (work .entry)) (now (work .exit)) r ⌝ }
 {
     answer::plain(table::to_table::coefficients_to_table(message, clearances, work))
 }

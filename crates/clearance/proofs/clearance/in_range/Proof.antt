@@ -2,11 +2,8 @@ use borrow.Author.Needs.{needs}
 use Rattle.clearance.proofs.clearance.in_range.Statement.{statement}
 use Rattle.clearance.proofs.clearance.in_range.Tie as tie
 
-sub-result : tie.Need-sub-result
-sub-result c = search needs
-
 returns : tie.Need-returns
 returns c = search needs
 
 pub in-range-spec : {M : Type 1} → statement M
-in-range-spec = tie.close (tie.spec sub-result returns)
+in-range-spec = tie.close (tie.spec returns)

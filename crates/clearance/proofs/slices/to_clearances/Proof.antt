@@ -1,52 +1,57 @@
 -- Before turn i the first i clearances are written, and the first i words are 0. Assumes nothing.
-use mathlib.Core.Path.{_≡_, refl, sym, ap, _∙_}
+use mathlib.Core.Path.{_≡_, refl, sym, ap, ap₂, _∙_}
 use mathlib.Core.List.{map}
 use Prim.Native.Nat.{_-_, _≤_}
 use native.Mathlib.Omega.{arith}
-use lib.IntN.{pos}
 use lib.ListN.{length, getD, replicate, length-map, length-replicate, getD-replicate, List·getD-map}
 use borrow.Author.Needs.{needs}
 use Rattle.algebra.specs.Filling.{Filled, filled-none, filled-turn, filled-end, filled-length, filled-old}
-use Rattle.clearance.specs.Clearances.{clearanceOf}
-use Rattle.clearance.specs.ClearanceLaws.{clearance-range}
-use Rattle.clearance.proofs.Signs.{Read, read}
+use Rattle.residue.specs.Chosen.{chosen, most}
+use Rattle.clearance.specs.Clearances.{clearanceBy}
+use Rattle.clearance.specs.ClearanceLaws.{border-half}
+use Rattle.clearance.proofs.Signs.{Read, read-by}
 use Rattle.clearance.proofs.slices.to_clearances.Statement.{statement}
 use Rattle.clearance.proofs.slices.to_clearances.Tie as tie
 
 abbrev Inv-loop : tie.InvT-loop
-Inv-loop s₀ out₀ i₀ s out i =
+Inv-loop s₀ out₀ p border i₀ s out i =
     let n = length s₀ in
-    (i ≤ n) × (length s ≡ n) × (length out ≡ n) × Filled i (map clearanceOf s₀) out₀ out × Filled i (replicate n 0) s₀ s
+    (i ≤ n) × (length s ≡ n) × (length out ≡ n) × Filled i (map (clearanceBy border p) s₀) out₀ out × Filled i (replicate n 0) s₀ s
 
 abbrev μ-loop : tie.MeasureT-loop
-μ-loop s₀ out₀ i₀ s out i = length s₀ - i
+μ-loop s₀ out₀ p border i₀ s out i = length s₀ - i
+
+modulus-requires : tie.Need-modulus-requires Inv-loop μ-loop
+modulus-requires c κs = search needs
+
+half-requires : tie.Need-half-requires Inv-loop μ-loop
+half-requires c κs = search needs
+
+word-requires : tie.Need-word-requires Inv-loop μ-loop
+word-requires c κs = search needs
 
 loop-holds : tie.Need-loop-holds Inv-loop μ-loop
 loop-holds c = (omega arith, refl, omega arith, filled-none _ _, filled-none _ _)
 
-mul-new : tie.Need-mul-new Inv-loop μ-loop
-mul-new c = search needs
+mul-to-clearance : tie.Need-mul-to-clearance Inv-loop μ-loop
+mul-to-clearance c = search needs
 
-slice-read-new : tie.Need-slice-read-new Inv-loop μ-loop
-slice-read-new c = search needs
-
-new-requires : tie.Need-new-requires Inv-loop μ-loop
-new-requires c κs =
-    let l = c .before .before .loop in
-    let z = c .before .before .before .before in
-    rw (filled-old (l .inv .4) (l .i) 0 (omega arith)) (z .pre .1 .low (l .i) (omega arith))
+slice-read-to-clearance : tie.Need-slice-read-to-clearance Inv-loop μ-loop
+slice-read-to-clearance c = search needs
 
 to-clearance-requires : tie.Need-to-clearance-requires Inv-loop μ-loop
 to-clearance-requires c κs =
-    let l = c .before .before .before .loop in
-    let z = c .before .before .before .before .before in
-    rw (c .new .ensures ∙ filled-old (l .inv .4) (l .i) 0 (omega arith)) (z .pre .1 .low (l .i) (omega arith))
+    let l = c .before .before .loop in
+    let m = c .before .before .before .before .before in
+    let z = m .before .before in
+    let same = filled-old (l .inv .4) (l .i) 0 (omega arith) in
+    (omega (arith, same, z .pre .1 .low (l .i) (omega arith), m .modulus .ensures), omega (arith, most (z .args .field), m .modulus .ensures))
 
-mul-t11 : tie.Need-mul-t11 Inv-loop μ-loop
-mul-t11 c = search needs
+mul-x : tie.Need-mul-x Inv-loop μ-loop
+mul-x c = search needs
 
-slice-set-from-out : tie.Need-slice-set-from-out Inv-loop μ-loop
-slice-set-from-out c = search needs
+slice-set-from-x : tie.Need-slice-set-from-x Inv-loop μ-loop
+slice-set-from-x c = search needs
 
 mul-s : tie.Need-mul-s Inv-loop μ-loop
 mul-s c = search needs
@@ -62,15 +67,17 @@ loop-less c = omega arith
 
 loop-again : tie.Need-loop-again Inv-loop μ-loop
 loop-again c =
-    let made = c .before in
-    let l = made .before .before .before .loop in
-    let z = made .before .before .before .before .before in
+    let l = c .before .before .before .loop in
+    let w = c .before .before .before .before in
+    let m = w .before .before in
+    let z = m .before .before in
     let s = z .args .s .now in
     let n = length s in
-    let w = getD s (l .i) 0 in
-    let same = made .new .ensures ∙ filled-old (l .inv .4) (l .i) 0 (omega arith) in
-    let is = ap Read (c .to-clearance .ensures ∙ ap clearanceOf same) ∙ read (clearanceOf w) (clearance-range w (z .pre .1 .low (l .i) (omega arith))) in
-    let p = filled-turn (pos 0) (omega arith) (omega (arith, length-map s clearanceOf)) (l .inv .3) (is ∙ sym (List·getD-map clearanceOf s (l .i) 0)) in
+    let f = clearanceBy (w .word .result) (m .modulus .result) in
+    let same = filled-old (l .inv .4) (l .i) 0 (omega arith) in
+    let top : m .modulus .result ≤ 2147483647 = omega (arith, most (z .args .field), m .modulus .ensures) in
+    let is = ap Read (c .to-clearance .ensures ∙ ap f same) ∙ read-by _ top _ (getD s (l .i) 0) (omega (arith, z .pre .1 .low (l .i) (omega arith), m .modulus .ensures)) in
+    let p = filled-turn (f 0) (omega arith) (omega (arith, length-map s f)) (l .inv .3) (is ∙ sym (List·getD-map f s (l .i) 0)) in
     let q = filled-turn 0 (omega arith) (length-replicate n 0) (l .inv .4) (sym (getD-replicate n (l .i) 0 0 (omega arith))) in
     (omega arith, filled-length q, omega (arith, filled-length p), p, q)
 
@@ -83,8 +90,14 @@ same-length-2 c = omega arith
 returns : tie.Need-returns Inv-loop μ-loop
 returns c =
     let l = c .before .loop in
-    let s = c .before .before .before .args .s .now in (
-      filled-end (omega arith) (omega (arith, length-map s clearanceOf)) (l .inv .3),
+    let w = c .before .before in
+    let m = w .before .before in
+    let z = m .before .before in
+    let s = z .args .s .now in
+    let 𝓕 = chosen (z .args .field) in
+    let border = w .word .ensures ∙ w .before .half .ensures ∙ sym (border-half 𝓕) in (
+      filled-end (omega arith) (omega (arith, length-map s (clearanceBy (w .word .result) (m .modulus .result)))) (l .inv .3)
+          ∙ ap₂ (λ b p. map (clearanceBy b p) s) border (m .modulus .ensures),
       filled-end (omega arith) (length-replicate (length s) 0) (l .inv .4),
     )
 
@@ -94,13 +107,15 @@ to-clearances-spec =
     (tie.spec
     Inv-loop
     μ-loop
+    modulus-requires
+    half-requires
+    word-requires
     loop-holds
-    mul-new
-    slice-read-new
-    new-requires
+    mul-to-clearance
+    slice-read-to-clearance
     to-clearance-requires
-    mul-t11
-    slice-set-from-out
+    mul-x
+    slice-set-from-x
     mul-s
     slice-write-s
     add-i

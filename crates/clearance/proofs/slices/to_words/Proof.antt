@@ -3,39 +3,44 @@ use mathlib.Core.Path.{_≡_, sym, ap, _∙_}
 use mathlib.Core.List.{map}
 use Prim.Native.Nat.{_-_, _≤_}
 use native.Mathlib.Omega.{arith}
-use lib.IntN.{pos}
+use lib.IntN.{pos, natAbs}
 use lib.ListN.{length, getD, length-map, List·getD-map}
 use borrow.Author.Needs.{needs}
 use Rattle.algebra.specs.Filling.{Filled, filled-none, filled-turn, filled-end, filled-length}
 use Rattle.algebra.specs.Tests.{all-at}
-use Rattle.clearance.specs.Clearances.{inRange, residueOf}
-use Rattle.clearance.proofs.Signs.{read-any}
+use Rattle.residue.specs.Chosen.{chosen, most}
+use Rattle.clearance.specs.Clearances.{inRange, residueBy}
+use Rattle.clearance.proofs.Signs.{read-any, range-abs}
 use Rattle.clearance.proofs.slices.to_words.Statement.{statement}
 use Rattle.clearance.proofs.slices.to_words.Tie as tie
 
 abbrev Inv-loop : tie.InvT-loop
-Inv-loop s out₀ i₀ out i = (i ≤ length s) × (length out ≡ length s) × Filled i (map residueOf s) out₀ out
+Inv-loop s out₀ p i₀ out i = (i ≤ length s) × (length out ≡ length s) × Filled i (map (residueBy p) s) out₀ out
 
 abbrev μ-loop : tie.MeasureT-loop
-μ-loop s out₀ i₀ out i = length s - i
+μ-loop s out₀ p i₀ out i = length s - i
+
+modulus-requires : tie.Need-modulus-requires Inv-loop μ-loop
+modulus-requires c κs = search needs
 
 loop-holds : tie.Need-loop-holds Inv-loop μ-loop
 loop-holds c = (omega arith, omega arith, filled-none _ _)
 
-mul-to-residue : tie.Need-mul-to-residue Inv-loop μ-loop
-mul-to-residue c = search needs
+mul-to-word : tie.Need-mul-to-word Inv-loop μ-loop
+mul-to-word c = search needs
 
-shared-slice-copy-out-to-residue : tie.Need-shared-slice-copy-out-to-residue Inv-loop μ-loop
-shared-slice-copy-out-to-residue c = search needs
+shared-slice-copy-out-to-word : tie.Need-shared-slice-copy-out-to-word Inv-loop μ-loop
+shared-slice-copy-out-to-word c = search needs
 
-to-residue-requires : tie.Need-to-residue-requires Inv-loop μ-loop
-to-residue-requires c κs =
+to-word-requires : tie.Need-to-word-requires Inv-loop μ-loop
+to-word-requires c κs =
     let l = c .before .before .loop in
-    let start = c .before .before .before .before in
-    ap inRange (read-any (getD (start .args .s .now) (l .i) (pos 0)) (c .to-residue-arg .given)) ∙ all-at inRange (start .args .s .now) (pos 0) (start .pre .1) (l .i) (omega arith)
-
-word-requires : tie.Need-word-requires Inv-loop μ-loop
-word-requires c κs = search needs
+    let m = c .before .before .before in
+    let start = m .before .before in
+    let f = start .args .field in
+    let x = getD (start .args .s .now) (l .i) (pos 0) in
+    let in-range = all-at (inRange (chosen f)) (start .args .s .now) (pos 0) (start .pre .1) (l .i) (omega arith) in
+    (omega (arith, ap natAbs (read-any x (c .to-word-arg .given)), range-abs (chosen f) x in-range, m .modulus .ensures), omega (arith, most f, m .modulus .ensures))
 
 mul-out : tie.Need-mul-out Inv-loop μ-loop
 mul-out c = search needs
@@ -51,13 +56,14 @@ loop-less c = omega arith
 
 loop-again : tie.Need-loop-again Inv-loop μ-loop
 loop-again c =
-    let made = c .before in
-    let l = made .before .before .before .loop in
-    let s = made .before .before .before .before .before .args .s .now in
-    let read = ap residueOf (read-any (getD s (l .i) (pos 0)) (made .before .to-residue-arg .given)) in
-    let is = c .word .ensures ∙ made .to-residue .ensures ∙ read ∙ sym (List·getD-map residueOf s (l .i) (pos 0)) in
-    let p = filled-turn 0 (omega arith) (omega (arith, length-map s residueOf)) (l .inv .2) is in
-    (omega arith, omega (arith, filled-length p), p)
+    let l = c .before .before .before .loop in
+    let m = c .before .before .before .before in
+    let s = m .before .before .args .s .now in
+    let p = m .modulus .result in
+    let read = ap (residueBy p) (read-any (getD s (l .i) (pos 0)) (c .before .to-word-arg .given)) in
+    let is = c .to-word .ensures ∙ read ∙ sym (List·getD-map (residueBy p) s (l .i) (pos 0)) in
+    let q = filled-turn 0 (omega arith) (omega (arith, length-map s (residueBy p))) (l .inv .2) is in
+    (omega arith, omega (arith, filled-length q), q)
 
 same-length : tie.Need-same-length Inv-loop μ-loop
 same-length c = omega arith
@@ -65,8 +71,9 @@ same-length c = omega arith
 returns : tie.Need-returns Inv-loop μ-loop
 returns c =
     let l = c .before .loop in
-    let s = c .before .before .before .args .s .now in
-    filled-end (omega arith) (omega (arith, length-map s residueOf)) (l .inv .2)
+    let m = c .before .before in
+    let s = m .before .before .args .s .now in
+    filled-end (omega arith) (omega (arith, length-map s (residueBy (m .modulus .result)))) (l .inv .2) ∙ ap (λ p. map (residueBy p) s) (m .modulus .ensures)
 
 pub to-words-spec : {M : Type 1} → statement M
 to-words-spec =
@@ -74,11 +81,11 @@ to-words-spec =
     (tie.spec
     Inv-loop
     μ-loop
+    modulus-requires
     loop-holds
-    mul-to-residue
-    shared-slice-copy-out-to-residue
-    to-residue-requires
-    word-requires
+    mul-to-word
+    shared-slice-copy-out-to-word
+    to-word-requires
     mul-out
     slice-write-out
     add-i

@@ -1,5 +1,6 @@
 -- The words of the table, transformed, are the coefficients. Assumes nothing.
 use borrow.Author.Needs.{needs}
+use Rattle.residue.specs.Chosen.{chosen}
 use Rattle.table.proofs.Finding.{table-asks, table-found}
 use Rattle.table.proofs.to_coefficients.find.Statement.{statement}
 use Rattle.table.proofs.to_coefficients.find.Tie as tie
@@ -15,7 +16,7 @@ transform-requires c κs =
     let w = c .before .before .before in
     let d = w .before .before in
     let z = d .before .before in
-    table-asks (z .args .clearances .now) (w .to-words .ensures) (d .depth-of .ensures) (z .pre .0) (z .pre .1 .1)
+    table-asks (chosen (z .args .field)) (z .args .clearances .now) (w .to-words .ensures) (d .depth-of .ensures) (z .pre .0) (z .pre .1 .1)
 
 same-length : tie.Need-same-length
 same-length c = search needs
@@ -24,7 +25,7 @@ returns : tie.Need-returns
 returns c =
     let w = c .before .before .before .before .before .before in
     let d = w .before .before in
-    table-found (d .before .before .args .clearances .now) (w .to-words .ensures) (d .depth-of .ensures) (c .before .before .transform .ensures)
+    table-found (chosen (d .before .before .args .field)) (d .before .before .args .clearances .now) (w .to-words .ensures) (d .depth-of .ensures) (c .before .before .transform .ensures)
 
 pub find-spec : {M : Type 1} → statement M
 find-spec =

@@ -2,6 +2,7 @@
 use mathlib.Core.Path.{sym, ap, _∙_}
 use lib.ListN.{replicate}
 use borrow.Author.Needs.{needs}
+use Rattle.residue.specs.Chosen.{chosen}
 use Rattle.table.proofs.Finding.{message-asks, Entries, entries}
 use Rattle.table.proofs.to_table.find.Statement.{statement}
 use Rattle.table.proofs.to_table.find.Tie as tie
@@ -16,13 +17,13 @@ transform-requires : tie.Need-transform-requires
 transform-requires c κs =
     let d = c .before .before .before .before .before in
     let z = d .before .before .before in
-    message-asks (c .before .before .before .copy .ensures) (d .depth-of .ensures) (z .pre .0 .0) (z .pre .0 .1)
+    message-asks (chosen (z .args .field)) (c .before .before .before .copy .ensures) (d .depth-of .ensures) (z .pre .0 .0) (z .pre .0 .1)
 
 -- what the transform left in the work buffer
-filled : (c : tie.After-transform) → Entries (c .before .before .before .before .before .before .before .before .before .args .message .now) (c .transform .last .1 .1 .0)
+filled : (c : tie.After-transform) → (let a = c .before .before .before .before .before .before .before .before .before .args in Entries (chosen (a .field)) (a .message .now) (c .transform .last .1 .1 .0))
 filled c =
     let d = c .before .before .before .before .before .before in
-    entries (c .before .before .before .before .copy .ensures) (d .depth-of .ensures) (d .before .before .before .pre .0 .0) (c .transform .ensures)
+    entries (chosen (d .before .before .before .args .field)) (c .before .before .before .before .copy .ensures) (d .depth-of .ensures) (d .before .before .before .pre .0 .0) (c .transform .ensures)
 
 to-clearances-requires : tie.Need-to-clearances-requires
 to-clearances-requires c κs =

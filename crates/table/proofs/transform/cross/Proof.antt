@@ -2,20 +2,20 @@
 use Prim.Native.Nat.{_-_}
 use native.Mathlib.Omega.{arith}
 use borrow.Author.Needs.{needs}
-use Rattle.algebra.specs.Words.{𝔽₁}
+use Rattle.residue.specs.Chosen.{chosen}
 use Rattle.table.specs.Passes.{across}
 use Rattle.table.proofs.Crossing.{Crossing, crossing-none, crossing-length, crossing-low, crossing-turn, crossing-end}
 use Rattle.table.proofs.transform.cross.Statement.{statement}
 use Rattle.table.proofs.transform.cross.Tie as tie
 
 abbrev Inv-loop : tie.InvT-loop
-Inv-loop way half s₀ j₀ s j = Crossing 𝔽₁ (across 𝔽₁ way) half s₀ j s
+Inv-loop way half s₀ field j₀ s j = Crossing (chosen field) (across (chosen field) way) half s₀ j s
 
 abbrev μ-loop : tie.MeasureT-loop
-μ-loop way half s₀ j₀ s j = half - j
+μ-loop way half s₀ field j₀ s j = half - j
 
 loop-holds : tie.Need-loop-holds Inv-loop μ-loop
-loop-holds c = crossing-none 𝔽₁ _ _ _ (c .before .pre .0) (c .before .pre .1)
+loop-holds c = crossing-none _ _ _ _ (c .before .pre .0) (c .before .pre .1)
 
 add-k : tie.Need-add-k Inv-loop μ-loop
 add-k c = search needs
@@ -24,22 +24,22 @@ mul-step : tie.Need-mul-step Inv-loop μ-loop
 mul-step c = search needs
 
 slice-read-step : tie.Need-slice-read-step Inv-loop μ-loop
-slice-read-step c = omega (arith, crossing-length 𝔽₁ (c .before .before .loop .inv))
+slice-read-step c = omega (arith, crossing-length _ (c .before .before .loop .inv))
 
 mul-step-2 : tie.Need-mul-step-2 Inv-loop μ-loop
 mul-step-2 c = search needs
 
 slice-read-step-2 : tie.Need-slice-read-step-2 Inv-loop μ-loop
-slice-read-step-2 c = omega (arith, crossing-length 𝔽₁ (c .before .before .before .loop .inv))
+slice-read-step-2 c = omega (arith, crossing-length _ (c .before .before .before .loop .inv))
 
 step-requires : tie.Need-step-requires Inv-loop μ-loop
-step-requires c κs = crossing-low 𝔽₁ (c .before .before .before .loop .inv) (omega arith)
+step-requires c κs = crossing-low _ (c .before .before .before .loop .inv) (omega arith)
 
 mul-s : tie.Need-mul-s Inv-loop μ-loop
 mul-s c = search needs
 
 slice-write-s : tie.Need-slice-write-s Inv-loop μ-loop
-slice-write-s c = omega (arith, crossing-length 𝔽₁ (c .before .before .before .before .loop .inv))
+slice-write-s c = omega (arith, crossing-length _ (c .before .before .before .before .loop .inv))
 
 add-j : tie.Need-add-j Inv-loop μ-loop
 add-j c = search needs
@@ -48,13 +48,13 @@ loop-less : tie.Need-loop-less Inv-loop μ-loop
 loop-less c = omega arith
 
 loop-again : tie.Need-loop-again Inv-loop μ-loop
-loop-again c = crossing-turn 𝔽₁ (c .before .before .before .before .loop .inv) (omega arith) (c .step .ensures)
+loop-again c = crossing-turn _ (c .before .before .before .before .loop .inv) (omega arith) (c .step .ensures)
 
 same-length : tie.Need-same-length Inv-loop μ-loop
-same-length c = crossing-length 𝔽₁ (c .before .loop .inv)
+same-length c = crossing-length _ (c .before .loop .inv)
 
 returns : tie.Need-returns Inv-loop μ-loop
-returns c = crossing-end 𝔽₁ (c .before .loop .inv) (omega arith)
+returns c = crossing-end _ (c .before .loop .inv) (omega arith)
 
 pub cross-spec : {M : Type 1} → statement M
 cross-spec =

@@ -1,8 +1,8 @@
 -- The operation on residues that the way asks for. Assumes nothing.
 use mathlib.Core.Path.{sym, ap, _∙_}
 use borrow.Author.Needs.{needs}
-use Rattle.algebra.specs.Words.{𝔽₁}
-use Rattle.residue.specs.Residues.{word, el}
+use Rattle.residue.specs.Elements.{word, el}
+use Rattle.residue.specs.Chosen.{chosen}
 use Rattle.table.specs.Passes.{across}
 use Rattle.table.proofs.transform.step.Statement.{statement}
 use Rattle.table.proofs.transform.step.Tie as tie
@@ -22,12 +22,14 @@ plus-requires c κs = search needs
 returns : tie.Need-returns
 returns c =
     let x = c .before .before .before .args in
-    c .minus .ensures ∙ ap (λ w. word (across 𝔽₁ w (el (x .x)) (el (x .y)))) (sym (c .before .enum-told .given .1))
+    let 𝓕 = chosen (x .field) in
+    c .minus .ensures ∙ ap (λ w. word 𝓕 (across 𝓕 w (el 𝓕 (x .x)) (el 𝓕 (x .y)))) (sym (c .before .enum-told .given .1))
 
 returns-2 : tie.Need-returns-2
 returns-2 c =
     let x = c .before .before .before .args in
-    c .plus .ensures ∙ ap (λ w. word (across 𝔽₁ w (el (x .x)) (el (x .y)))) (sym (c .before .enum-told2 .given .1))
+    let 𝓕 = chosen (x .field) in
+    c .plus .ensures ∙ ap (λ w. word 𝓕 (across 𝓕 w (el 𝓕 (x .x)) (el 𝓕 (x .y)))) (sym (c .before .enum-told2 .given .1))
 
 pub step-spec : {M : Type 1} → statement M
 step-spec =

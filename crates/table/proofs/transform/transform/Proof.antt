@@ -1,55 +1,60 @@
--- Before the pass of a variable the passes of all lower ones are done. Assumes nothing.
-use Prim.Native.Nat.{_-_}
-use native.Mathlib.Omega.{arith}
-use Rattle.algebra.specs.Words.{𝔽₁}
-use Rattle.table.specs.Passes.{across}
-use Rattle.table.proofs.Passing.{Reached, reached-none, reached-length, reached-asks, reached-fits, reached-turn, reached-end}
+-- In each arm the field is the one that the passes are given. Assumes nothing.
+use mathlib.Core.Path.{_≡_, sym, ap, _∙_, subst}
+use Prim.Native.Nat.{_^_}
+use lib.ListN.{length}
+use borrow.Author.Needs.{needs}
+use Rattle.algebra.specs.WordLists.{Low, elements, toWords}
+use Rattle.residue.specs.Elements.{P}
+use Rattle.residue.specs.Chosen.{chosen}
+use Rattle.table.specs.Passes.{across, passes}
 use Rattle.table.proofs.transform.transform.Statement.{statement}
 use Rattle.table.proofs.transform.transform.Tie as tie
 
-abbrev Inv-loop : tie.InvT-loop
-Inv-loop way depth s₀ level₀ half₀ count₀ s level half count = Reached 𝔽₁ (across 𝔽₁ way) depth s₀ level half count s
+enum-told : tie.Need-enum-told
+enum-told c = search needs
 
-abbrev μ-loop : tie.MeasureT-loop
-μ-loop way depth s₀ level₀ half₀ count₀ s level half count = depth - level
+sweeps-requires : tie.Need-sweeps-requires
+sweeps-requires c κs =
+    let z = c .before .before .before .before in
+    subst (λ f. (length (z .args .s .now) ≡ 2 ^ z .args .depth) × Low (P (chosen f)) (z .args .s .now)) (c .before .enum-told .given .1) (z .pre)
 
-loop-holds : tie.Need-loop-holds Inv-loop μ-loop
-loop-holds c = reached-none 𝔽₁ _ _ _ (c .before .pre .0) (c .before .pre .1)
+enum-told-2 : tie.Need-enum-told-2
+enum-told-2 c = search needs
 
-sweep-requires : tie.Need-sweep-requires Inv-loop μ-loop
-sweep-requires c κs = reached-asks 𝔽₁ (c .before .before .loop .inv) (c .before .loop-test .taken)
+sweeps-requires-2 : tie.Need-sweeps-requires-2
+sweeps-requires-2 c κs =
+    let z = c .before .before .before .before in
+    subst (λ f. (length (z .args .s .now) ≡ 2 ^ z .args .depth) × Low (P (chosen f)) (z .args .s .now)) (c .before .enum-told2 .given .1) (z .pre)
 
-mul-half : tie.Need-mul-half Inv-loop μ-loop
-mul-half c =
-    let l = c .before .before .before .before .before in
-    record { fits = omega (arith, reached-fits 𝔽₁ (l .loop .inv) (c .before .before .before .before .loop-test .taken), l .before .before .good .1 .1 .0 .0) }
+same-length : tie.Need-same-length
+same-length c = search needs
 
-add-level : tie.Need-add-level Inv-loop μ-loop
-add-level c = record { fits = omega (arith, c .before .before .before .before .before .before .before .fits .depth .fits, c .before .before .before .before .loop-test .taken) }
+returns : tie.Need-returns
+returns c =
+    let t = c .before .before .before .before in
+    let a = t .before .before .before .args in
+    c .before .before .sweeps .ensures
+    ∙ ap (λ f. toWords (chosen f) (passes (across (chosen f) (a .way)) (a .depth) (elements (chosen f) (a .s .now)))) (sym (t .enum-told .given .1))
 
-loop-less : tie.Need-loop-less Inv-loop μ-loop
-loop-less c = omega arith
+same-length-2 : tie.Need-same-length-2
+same-length-2 c = search needs
 
-loop-again : tie.Need-loop-again Inv-loop μ-loop
-loop-again c = reached-turn 𝔽₁ (c .before .before .before .before .before .loop .inv) (c .before .before .before .before .loop-test .taken) (c .before .before .sweep .ensures)
-
-same-length : tie.Need-same-length Inv-loop μ-loop
-same-length c = reached-length 𝔽₁ (c .before .loop .inv)
-
-returns : tie.Need-returns Inv-loop μ-loop
-returns c = reached-end 𝔽₁ (c .before .loop .inv) (c .loop-test .left)
+returns-2 : tie.Need-returns-2
+returns-2 c =
+    let t = c .before .before .before .before in
+    let a = t .before .before .before .args in
+    c .before .before .sweeps2 .ensures
+    ∙ ap (λ f. toWords (chosen f) (passes (across (chosen f) (a .way)) (a .depth) (elements (chosen f) (a .s .now)))) (sym (t .enum-told2 .given .1))
 
 pub transform-spec : {M : Type 1} → statement M
 transform-spec =
     tie.close
     (tie.spec
-    Inv-loop
-    μ-loop
-    loop-holds
-    sweep-requires
-    mul-half
-    add-level
-    loop-less
-    loop-again
+    enum-told
+    sweeps-requires
+    enum-told-2
+    sweeps-requires-2
     same-length
-    returns)
+    returns
+    same-length-2
+    returns-2)
