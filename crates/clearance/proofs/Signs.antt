@@ -1,11 +1,13 @@
 -- What the machine makes of a clearance: its bits read back, and negated, at 32 bits. Assumes nothing.
 use mathlib.Core.Path.{_≡_, refl, sym, ap, ap₂, _∙_}
 use mathlib.Core.Bool.{Bool, true, false, cond, false≢true}
+use mathlib.Core.List.{List, map}
 use Prim.Native.Nat.{ℕ, zero, suc, _-_, _<_, _≤_}
 use native.Mathlib.Nat.{zero-add}
 use native.Mathlib.Omega.{arith}
 use lib.Dec.{ltb}
 use lib.IntN.{ℤ, pos, negsuc, negℤ, natAbs, _-ℤ_}
+use lib.ListN.{getD, List·getD-map}
 use lib.Signed.{ltZ, mag}
 use borrow.Author.Tests.{lt-ltb, ltb-true}
 use mir.Syntax.{w32}
@@ -78,12 +80,17 @@ module _ (p : ℕ) (top : p ≤ 2147483647) where
       pub is : Read (pos 0 -ℤ toZ w32 (p - w)) ≡ clearanceBy border p w
 
     -- and what they are fits
-    pub read-by : (w : ℕ) → w < p → Read (clearanceBy border p w) ≡ clearanceBy border p w
+    read-by : (w : ℕ) → w < p → Read (clearanceBy border p w) ≡ clearanceBy border p w
     read-by w l = read (clearanceBy border p w) (go (ltb w border))
       where
         go : (b : Bool) → natAbs (cond b (pos w) (negℤ (pos (p - w)))) < 2147483648
         go true = omega arith
         go false = rw abs-neg (omega arith)
+
+    -- what the words of a list are
+    pub read-at : (ws : List ℕ) (i : ℕ) {w : ℕ} {x : ℤ} → x ≡ clearanceBy border p w → w ≡ getD ws i 0 → w < p
+        → Read x ≡ getD (map (clearanceBy border p) ws) i (clearanceBy border p 0)
+    read-at ws i {w} e is l = ap Read e ∙ read-by w l ∙ ap (clearanceBy border p) is ∙ sym (List·getD-map (clearanceBy border p) ws i 0)
 
     pub not-overlapping : (w : ℕ) → w < border → w < p → toZ w32 w ≡ clearanceBy border p w
     not-overlapping w h l = toZ-pos w32 w (omega arith) ∙ sym (by-pos border p w h)

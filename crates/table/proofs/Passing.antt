@@ -1,5 +1,5 @@
 -- The words of a slice during a pass, block after block, and from pass to pass. Assumes nothing.
-use mathlib.Core.Path.{_≡_, refl, sym, ap, ap₂, _∙_}
+use mathlib.Core.Path.{_≡_, refl, sym, ap, ap₂, _∙_, subst}
 use mathlib.Core.List.{List, [], _∷_, _++_, append-nil}
 use Prim.Native.Nat.{ℕ, zero, suc, _+_, _*_, _-_, _/_, _^_, _<_, _≤_}
 use native.Mathlib.Nat.{suc-mul, zero-mul, mul-le-mul-right}
@@ -13,7 +13,11 @@ use Rattle.algebra.specs.Ring.{Ring}
 use Rattle.algebra.specs.Field.{Field}
 use Rattle.algebra.specs.Words.{PrimeField}
 use Rattle.algebra.specs.WordLists.{Low, low-take, low-drop, low-words, elements, toWords, length-elements, length-words, elements-take, elements-drop, elements-words, words-elements}
-use Rattle.table.specs.Passes.{crossed, blocks, passes}
+use Rattle.residue.specs.declared.Field.{Field as Choice}
+use Rattle.residue.specs.Elements.{P}
+use Rattle.residue.specs.Chosen.{chosen}
+use Rattle.table.specs.declared.transform.Way.{Way}
+use Rattle.table.specs.Passes.{across, crossed, blocks, passes}
 use Rattle.table.proofs.Blocks.{part-written, block-room, length-blocks, block-at, length-crossed, halves, doubles, parts-joined, after, length-after, after-none, after-turn, after-all}
 
 module _ (𝓕 : PrimeField) where
@@ -36,13 +40,6 @@ module _ (𝓕 : PrimeField) where
   -- the words after a pass over c blocks of twice h words
   abbrev pub passed : (Element → Element → Element) → ℕ → ℕ → List ℕ → List ℕ
   passed f h c ws = toWords 𝓕 (blocks (crossed f h) (h + h) c (elements 𝓕 ws))
-
-  -- a half that is known is that number
-  pub known-asks : {h : ℕ} (k c : ℕ) (ws : List ℕ) → h ≡ k → (length ws ≡ c * (h + h)) × Low P ws → (length ws ≡ c * (k + k)) × Low P ws
-  known-asks k c ws e p = (p .0 ∙ ap (λ n. c * (n + n)) e, p .1)
-
-  pub known-end : (f : Element → Element → Element) {h : ℕ} (k c : ℕ) (ws : List ℕ) {r : List ℕ} → h ≡ k → r ≡ passed f k c ws → r ≡ passed f h c ws
-  known-end f k c ws e p = p ∙ ap (λ n. passed f n c ws) (sym e)
 
   -- before block i, which begins at a, the words below a are as after the pass
   pub record Passing (f : Element → Element → Element) (h c : ℕ) (ws : List ℕ) (i a : ℕ) (out : List ℕ) : Type 0 where
@@ -184,3 +181,16 @@ module _ (𝓕 : PrimeField) where
     reached-end l =
         let same : k ≡ d = omega (arith, x .most) in
         x .is ∙ ap (λ m. toWords 𝓕 (after f d m (elements 𝓕 ws))) same ∙ ap (toWords 𝓕) (after-all f d (elements 𝓕 ws) elems)
+
+-- a pass over the chosen field, one way
+module _ (way : Way) (c : ℕ) (ws : List ℕ) where
+  abbrev swept : Choice → ℕ → List ℕ
+  swept f h = passed (chosen f) (across (chosen f) way) h c ws
+
+  -- a field and a half that are known are that field and that number
+  pub known-asks : {f : Choice} {h : ℕ} (g : Choice) (k : ℕ) → f ≡ g → h ≡ k
+      → (length ws ≡ c * (h + h)) × Low (P (chosen f)) ws → (length ws ≡ c * (k + k)) × Low (P (chosen g)) ws
+  known-asks g k e n p = (p .0 ∙ ap (λ m. c * (m + m)) n, subst (λ x. Low (P (chosen x)) ws) e (p .1))
+
+  pub known-end : {f : Choice} {h : ℕ} (g : Choice) (k : ℕ) → f ≡ g → h ≡ k → {r : List ℕ} → r ≡ swept g k → r ≡ swept f h
+  known-end g k e n p = p ∙ ap₂ swept (sym e) (sym n)

@@ -54,21 +54,29 @@ fn pass(way: Way, half: usize, count: usize, s: &mut [u32], field: Field)
     }
 }
 
-// The same, with the shortest halves as constants: the compiler unrolls their blocks.
+// The same, with the field and the shortest halves as constants: the compiler makes loops for each field, and unrolls those blocks.
 fn sweep(way: Way, half: usize, count: usize, s: &mut [u32], field: Field)
     requires { ⌜ (length (now s) ≡ count * (half + half)) × Low (P (chosen field)) (now s) ⌝ }
     ensures { λ _. ⌜ now (s .exit) ≡ toWords (chosen field) (blocks (crossed (across (chosen field) way) half) (half + half) count (elements (chosen field) (now (s .entry)))) ⌝ }
 {
-    match half {
-        1 => pass(way, 1, count, s, field),
-        2 => pass(way, 2, count, s, field),
-        4 => pass(way, 4, count, s, field),
-        _ => pass(way, half, count, s, field),
+    match field {
+        Field::First => match half {
+            1 => pass(way, 1, count, s, Field::First),
+            2 => pass(way, 2, count, s, Field::First),
+            4 => pass(way, 4, count, s, Field::First),
+            _ => pass(way, half, count, s, Field::First),
+        },
+        Field::Second => match half {
+            1 => pass(way, 1, count, s, Field::Second),
+            2 => pass(way, 2, count, s, Field::Second),
+            4 => pass(way, 4, count, s, Field::Second),
+            _ => pass(way, half, count, s, Field::Second),
+        },
     }
 }
 
 // All variables, from the lowest.
-fn sweeps(way: Way, depth: u32, s: &mut [u32], field: Field)
+pub fn transform(way: Way, depth: u32, s: &mut [u32], field: Field)
     requires { ⌜ (length (now s) ≡ 2 ^ depth) × Low (P (chosen field)) (now s) ⌝ }
     ensures { λ _. ⌜ now (s .exit) ≡ toWords (chosen field) (passes (across (chosen field) way) depth (elements (chosen field) (now (s .entry)))) ⌝ }
 {
@@ -80,16 +88,5 @@ fn sweeps(way: Way, depth: u32, s: &mut [u32], field: Field)
         sweep(way, half, count, s, field);
         half *= 2;
         level += 1;
-    }
-}
-
-// The same, with each field as a constant: the compiler makes the loops for each.
-pub fn transform(way: Way, depth: u32, s: &mut [u32], field: Field)
-    requires { ⌜ (length (now s) ≡ 2 ^ depth) × Low (P (chosen field)) (now s) ⌝ }
-    ensures { λ _. ⌜ now (s .exit) ≡ toWords (chosen field) (passes (across (chosen field) way) depth (elements (chosen field) (now (s .entry)))) ⌝ }
-{
-    match field {
-        Field::First => sweeps(way, depth, s, Field::First),
-        Field::Second => sweeps(way, depth, s, Field::Second),
     }
 }

@@ -1,15 +1,15 @@
 -- Before turn i the first i clearances are written, and the first i words are 0. Assumes nothing.
 use mathlib.Core.Path.{_≡_, refl, sym, ap, ap₂, _∙_}
 use mathlib.Core.List.{map}
-use Prim.Native.Nat.{_-_, _≤_}
+use Prim.Native.Nat.{ℕ, _-_, _≤_}
 use native.Mathlib.Omega.{arith}
-use lib.ListN.{length, getD, replicate, length-map, length-replicate, getD-replicate, List·getD-map}
+use lib.ListN.{length, getD, replicate, length-map, length-replicate, getD-replicate}
 use borrow.Author.Needs.{needs}
 use Rattle.algebra.specs.Filling.{Filled, filled-none, filled-turn, filled-end, filled-length, filled-old}
 use Rattle.residue.specs.Chosen.{chosen, most}
 use Rattle.clearance.specs.Clearances.{clearanceBy}
 use Rattle.clearance.specs.ClearanceLaws.{border-half}
-use Rattle.clearance.proofs.Signs.{Read, read-by}
+use Rattle.clearance.proofs.Signs.{read-at}
 use Rattle.clearance.proofs.slices.to_clearances.Statement.{statement}
 use Rattle.clearance.proofs.slices.to_clearances.Tie as tie
 
@@ -73,13 +73,15 @@ loop-again c =
     let z = m .before .before in
     let s = z .args .s .now in
     let n = length s in
-    let f = clearanceBy (w .word .result) (m .modulus .result) in
+    let border = w .word .result in
+    let p = m .modulus .result in
     let same = filled-old (l .inv .4) (l .i) 0 (omega arith) in
-    let top : m .modulus .result ≤ 2147483647 = omega (arith, most (z .args .field), m .modulus .ensures) in
-    let is = ap Read (c .to-clearance .ensures ∙ ap f same) ∙ read-by _ top _ (getD s (l .i) 0) (omega (arith, z .pre .1 .low (l .i) (omega arith), m .modulus .ensures)) in
-    let p = filled-turn (f 0) (omega arith) (omega (arith, length-map s f)) (l .inv .3) (is ∙ sym (List·getD-map f s (l .i) 0)) in
-    let q = filled-turn 0 (omega arith) (length-replicate n 0) (l .inv .4) (sym (getD-replicate n (l .i) 0 0 (omega arith))) in
-    (omega arith, filled-length q, omega (arith, filled-length p), p, q)
+    let top : p ≤ 2147483647 = omega (arith, most (z .args .field), m .modulus .ensures) in
+    let is = read-at p top border s (l .i) (c .to-clearance .ensures) same (omega (arith, same, z .pre .1 .low (l .i) (omega arith), m .modulus .ensures)) in
+    let o = filled-turn (clearanceBy border p 0) (omega arith) (omega (arith, length-map s (clearanceBy border p))) (l .inv .3) is in
+    let zero : _≡_ {A = ℕ} 0 (getD (replicate n 0) (l .i) 0) = sym (getD-replicate n (l .i) 0 0 (omega arith)) in
+    let q = filled-turn 0 (omega arith) (length-replicate n 0) (l .inv .4) zero in
+    (omega arith, filled-length q, omega (arith, filled-length o), o, q)
 
 same-length : tie.Need-same-length Inv-loop μ-loop
 same-length c = omega arith

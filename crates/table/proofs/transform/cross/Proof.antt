@@ -15,7 +15,10 @@ abbrev μ-loop : tie.MeasureT-loop
 μ-loop way half s₀ field j₀ s j = half - j
 
 loop-holds : tie.Need-loop-holds Inv-loop μ-loop
-loop-holds c = crossing-none _ _ _ _ (c .before .pre .0) (c .before .pre .1)
+loop-holds c =
+    let a = c .before .args in
+    let 𝓕 = chosen (a .field) in
+    crossing-none 𝓕 (across 𝓕 (a .way)) (a .half) (a .s .now) (c .before .pre .0) (c .before .pre .1)
 
 add-k : tie.Need-add-k Inv-loop μ-loop
 add-k c = search needs

@@ -15,7 +15,10 @@ abbrev μ-loop : tie.MeasureT-loop
 μ-loop way half count s₀ field i₀ at₀ s i at = count - i
 
 loop-holds : tie.Need-loop-holds Inv-loop μ-loop
-loop-holds c = passing-none _ _ _ _ _ (c .before .pre .0) (c .before .pre .1)
+loop-holds c =
+    let a = c .before .args in
+    let 𝓕 = chosen (a .field) in
+    passing-none 𝓕 (across 𝓕 (a .way)) (a .half) (a .count) (a .s .now) (c .before .pre .0) (c .before .pre .1)
 
 add-end : tie.Need-add-end Inv-loop μ-loop
 add-end c = let r = passing-room _ (c .before .loop .inv) (omega arith) in omega arith

@@ -1,60 +1,58 @@
--- In each arm the field is the one that the passes are given. Assumes nothing.
-use mathlib.Core.Path.{_≡_, sym, ap, _∙_, subst}
-use Prim.Native.Nat.{_^_}
-use lib.ListN.{length}
-use borrow.Author.Needs.{needs}
-use Rattle.algebra.specs.WordLists.{Low, elements, toWords}
-use Rattle.residue.specs.Elements.{P}
+-- Before the pass of a variable the passes of all lower ones are done. Assumes nothing.
+use Prim.Native.Nat.{_-_}
+use native.Mathlib.Omega.{arith}
 use Rattle.residue.specs.Chosen.{chosen}
-use Rattle.table.specs.Passes.{across, passes}
+use Rattle.table.specs.Passes.{across}
+use Rattle.table.proofs.Passing.{Reached, reached-none, reached-length, reached-asks, reached-fits, reached-turn, reached-end}
 use Rattle.table.proofs.transform.transform.Statement.{statement}
 use Rattle.table.proofs.transform.transform.Tie as tie
 
-enum-told : tie.Need-enum-told
-enum-told c = search needs
+abbrev Inv-loop : tie.InvT-loop
+Inv-loop way depth s₀ field level₀ half₀ count₀ s level half count = Reached (chosen field) (across (chosen field) way) depth s₀ level half count s
 
-sweeps-requires : tie.Need-sweeps-requires
-sweeps-requires c κs =
-    let z = c .before .before .before .before in
-    subst (λ f. (length (z .args .s .now) ≡ 2 ^ z .args .depth) × Low (P (chosen f)) (z .args .s .now)) (c .before .enum-told .given .1) (z .pre)
+abbrev μ-loop : tie.MeasureT-loop
+μ-loop way depth s₀ field level₀ half₀ count₀ s level half count = depth - level
 
-enum-told-2 : tie.Need-enum-told-2
-enum-told-2 c = search needs
+loop-holds : tie.Need-loop-holds Inv-loop μ-loop
+loop-holds c =
+    let a = c .before .args in
+    let 𝓕 = chosen (a .field) in
+    reached-none 𝓕 (across 𝓕 (a .way)) (a .depth) (a .s .now) (c .before .pre .0) (c .before .pre .1)
 
-sweeps-requires-2 : tie.Need-sweeps-requires-2
-sweeps-requires-2 c κs =
-    let z = c .before .before .before .before in
-    subst (λ f. (length (z .args .s .now) ≡ 2 ^ z .args .depth) × Low (P (chosen f)) (z .args .s .now)) (c .before .enum-told2 .given .1) (z .pre)
+sweep-requires : tie.Need-sweep-requires Inv-loop μ-loop
+sweep-requires c κs = reached-asks _ (c .before .before .loop .inv) (c .before .loop-test .taken)
 
-same-length : tie.Need-same-length
-same-length c = search needs
+mul-half : tie.Need-mul-half Inv-loop μ-loop
+mul-half c =
+    let l = c .before .before .before .before .before in
+    record { fits = omega (arith, reached-fits _ (l .loop .inv) (c .before .before .before .before .loop-test .taken), l .before .before .good .1 .1 .0 .0) }
 
-returns : tie.Need-returns
-returns c =
-    let t = c .before .before .before .before in
-    let a = t .before .before .before .args in
-    c .before .before .sweeps .ensures
-    ∙ ap (λ f. toWords (chosen f) (passes (across (chosen f) (a .way)) (a .depth) (elements (chosen f) (a .s .now)))) (sym (t .enum-told .given .1))
+add-level : tie.Need-add-level Inv-loop μ-loop
+add-level c = record { fits = omega (arith, c .before .before .before .before .before .before .before .fits .depth .fits, c .before .before .before .before .loop-test .taken) }
 
-same-length-2 : tie.Need-same-length-2
-same-length-2 c = search needs
+loop-less : tie.Need-loop-less Inv-loop μ-loop
+loop-less c = omega arith
 
-returns-2 : tie.Need-returns-2
-returns-2 c =
-    let t = c .before .before .before .before in
-    let a = t .before .before .before .args in
-    c .before .before .sweeps2 .ensures
-    ∙ ap (λ f. toWords (chosen f) (passes (across (chosen f) (a .way)) (a .depth) (elements (chosen f) (a .s .now)))) (sym (t .enum-told2 .given .1))
+loop-again : tie.Need-loop-again Inv-loop μ-loop
+loop-again c = reached-turn _ (c .before .before .before .before .before .loop .inv) (c .before .before .before .before .loop-test .taken) (c .before .before .sweep .ensures)
+
+same-length : tie.Need-same-length Inv-loop μ-loop
+same-length c = reached-length _ (c .before .loop .inv)
+
+returns : tie.Need-returns Inv-loop μ-loop
+returns c = reached-end _ (c .before .loop .inv) (c .loop-test .left)
 
 pub transform-spec : {M : Type 1} → statement M
 transform-spec =
     tie.close
     (tie.spec
-    enum-told
-    sweeps-requires
-    enum-told-2
-    sweeps-requires-2
+    Inv-loop
+    μ-loop
+    loop-holds
+    sweep-requires
+    mul-half
+    add-level
+    loop-less
+    loop-again
     same-length
-    returns
-    same-length-2
-    returns-2)
+    returns)
