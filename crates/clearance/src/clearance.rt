@@ -1,18 +1,19 @@
-// One clearance to a word, and back. What a loop over them calls takes numbers, not the field: none of its turns asks for the field.
+// One clearance to a word, and back. Loops over slices call these with numbers, not with the field, so that no turn asks for it.
 ghost use mathlib.Core.Path.{_≡_};
 ghost use Prim.Native.Nat.{_<_, _≤_};
 ghost use lib.IntN.{pos, natAbs};
 ghost use Rattle.residue.specs.Chosen.{chosen};
 ghost use Rattle.clearance.specs.Clearances.{maxClearance, between, residueBy, clearanceBy};
+use crate::MAX_CLEARANCE;
+use crate::SECOND_MAX_CLEARANCE;
 use residue::Field;
 
-// The largest distance, in micrometres, and the largest overlap.
 pub fn max_clearance(field: Field) -> i32
     ensures { λ r. ⌜ r ≡ pos (maxClearance (chosen field)) ⌝ }
 {
     match field {
-        Field::First => 1073741823,
-        Field::Second => 1006632960,
+        Field::First => MAX_CLEARANCE,
+        Field::Second => SECOND_MAX_CLEARANCE,
     }
 }
 
@@ -22,7 +23,7 @@ pub fn in_range(x: i32, min: i32, max: i32) -> bool
     (min <= x) & (x <= max)
 }
 
-// p is the modulus.
+// p is the modulus; 2147483647 is the largest i32.
 pub fn to_word(x: i32, p: u32) -> u32
     requires { ⌜ (natAbs x < p) × (p ≤ 2147483647) ⌝ }
     ensures { λ w. ⌜ w ≡ residueBy p x ⌝ }
