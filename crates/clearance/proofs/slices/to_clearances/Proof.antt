@@ -3,7 +3,7 @@ use mathlib.Core.Path.{_≡_, refl, sym, ap, ap₂, _∙_}
 use mathlib.Core.List.{map}
 use Prim.Native.Nat.{ℕ, _-_, _≤_}
 use native.Mathlib.Omega.{arith}
-use lib.ListN.{length, getD, replicate, length-map, length-replicate, getD-replicate}
+use lib.ListN.{length, getD, replicate, length-map, length-replicate, getD-replicate, length-set}
 use borrow.Author.Needs.{needs}
 use Rattle.algebra.specs.Filling.{Filled, filled-none, filled-turn, filled-end, filled-length, filled-old}
 use Rattle.residue.specs.Chosen.{chosen, most}
@@ -81,7 +81,7 @@ loop-again c =
     let o = filled-turn (clearanceBy border p 0) (omega arith) (omega (arith, length-map s (clearanceBy border p))) (l .inv .3) is in
     let zero : _≡_ {A = ℕ} 0 (getD (replicate n 0) (l .i) 0) = sym (getD-replicate n (l .i) 0 0 (omega arith)) in
     let q = filled-turn 0 (omega arith) (length-replicate n 0) (l .inv .4) zero in
-    (omega arith, filled-length q, omega (arith, filled-length o), o, q)
+    (omega arith, simp length-set (l .inv .1), omega (arith, filled-length o), o, q)
 
 same-length : tie.Need-same-length Inv-loop μ-loop
 same-length c = omega arith
