@@ -28,14 +28,14 @@ negated-suc n =
     let less : suc n - 1 ≡ n = omega arith in
     ap₂ (λ b k. cond b (negsuc k) (pos (0 - suc n))) (lt-ltb 0 (suc n) (omega arith)) less
 
-pub negated-pos : (n : ℕ) → pos 0 -ℤ pos n ≡ negℤ (pos n)
+negated-pos : (n : ℕ) → pos 0 -ℤ pos n ≡ negℤ (pos n)
 negated-pos zero = refl
 negated-pos (suc n) = negated-suc n
 
 pub read-any : (x : ℤ) → mag x < 2147483648 → Read x ≡ x
 read-any x h = toZ-ofZ w32 x (record { sfits = h })
 
-pub read : (x : ℤ) → natAbs x < 2147483648 → Read x ≡ x
+read : (x : ℤ) → natAbs x < 2147483648 → Read x ≡ x
 read (pos n) h = read-any (pos n) h
 read (negsuc n) h = read-any (negsuc n) (omega arith)
 
