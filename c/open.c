@@ -29,7 +29,7 @@ int main(void)
     if (verdict.number != TV_ACCEPTED)
         return 1;
     tv_reading reading = tv_read_clearance(value);
-    if (reading.number != TV_DONE)
+    if (reading.answer.number != TV_DONE)
         return 1;
     switch (reading.kind) { /* Only TV_FREE may be passed. */
     case TV_FREE: printf("entry 1 accepted: free by %u\n", (unsigned)reading.amount); break;

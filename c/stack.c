@@ -29,7 +29,7 @@ static uint32_t number;
 #define CODE DEPTH, RATE, g, RATE, t, DIAGONALS, t2, DIAGONALS
 
 static void nothing(void) { number = 0; }
-static void read_clearance(void) { number = tv_read_clearance(5).number; }
+static void read_clearance(void) { number = tv_read_clearance(5).answer.number; }
 static void to_coefficients(void) { number = tv_table_to_coefficients(table, MESSAGE, message, MESSAGE).number; }
 static void to_table(void) { number = tv_coefficients_to_table(message, MESSAGE, table, MESSAGE, work, MESSAGE).number; }
 static void evaluate(void) { number = tv_evaluate(DEPTH, message, MESSAGE, z, DEPTH, &value).number; }

@@ -25,6 +25,10 @@ typedef struct {
 #define ZEROS(length) ((list){zeros, length})
 #define DONE ((tv_answer){0, 0, 0})
 #define NUMBER(number) ((tv_answer){number, 0, 0})
+/* The refusals that name a place. */
+#define WORD(index, input) ((tv_answer){TV_REFUSED_WORD, index, input})
+#define ZERO_AT(index) ((tv_answer){TV_REFUSED_ROW, index, 0})
+#define EQUAL_AT(index) ((tv_answer){TV_REFUSED_DIAGONALS, index, 0})
 
 /* Enough for the work buffers of depth 17. */
 static const uint32_t zeros[TV_BLOCK_LEN(17, 2)];
@@ -135,11 +139,13 @@ static code depth_0(void)
 
 /* One call each, with what is due of its answer and its buffers. */
 
-static void reading(const char *what, uint32_t word, uint32_t number, uint32_t kind, uint32_t amount)
+static void reading(const char *what, uint32_t word, tv_answer due, uint32_t kind, uint32_t amount)
 {
     begin("tv_read_clearance", what);
     tv_reading got = tv_read_clearance(word);
-    end((tv_answer){got.number, got.kind, got.amount}, (tv_answer){number, kind, amount});
+    words read = writes(LIST(kind, amount));
+    read.at[0] = got.kind, read.at[1] = got.amount;
+    end(got.answer, due);
 }
 
 static void to_coefficients(const char *what, list clearances, tv_answer due, list message)
@@ -177,11 +183,16 @@ static void decode(const char *what, code c, list block, tv_answer due, list mes
     end(tv_decode(c.depth, c.rate, W(g), W(t), W(t2), W(b), W(m), W(s)), due);
 }
 
-static void fold(const char *what, uint32_t level, list block, uint32_t challenge, tv_answer due, list folded)
+static void fold_by(const char *what, uint32_t level, list t, list t2, list block, uint32_t challenge, tv_answer due, list folded)
 {
     begin("tv_fold", what);
-    words t = reads(OF(t_0)), t2 = reads(OF(t2_0)), b = reads(block), f = writes(folded);
-    end(tv_fold(level, 2, W(t), W(t2), W(b), challenge, W(f)), due);
+    words a = reads(t), a2 = reads(t2), b = reads(block), f = writes(folded);
+    end(tv_fold(level, 2, W(a), W(a2), W(b), challenge, W(f)), due);
+}
+
+static void fold(const char *what, uint32_t level, list block, uint32_t challenge, tv_answer due, list folded)
+{
+    fold_by(what, level, OF(t_0), OF(t2_0), block, challenge, due, folded);
 }
 
 static void write_opening(const char *what, code c, list message, list z, list r, tv_answer due, list opening, list work, list value)
@@ -212,12 +223,13 @@ static list repeated(size_t place, uint32_t word, size_t length)
 
 static void clearances(void)
 {
-    reading("residue 0 is contact", 0, 0, TV_CONTACT, 0);
-    reading("residue 1 is free by 1", 1, 0, TV_FREE, 1);
-    reading("residue 1073741823 is free by as much", 1073741823, 0, TV_FREE, TV_MAX_CLEARANCE);
-    reading("residue 1073741824 is an overlap of 1073741823", 1073741824, 0, TV_OVERLAP, TV_MAX_CLEARANCE);
-    reading("residue 2147483646 is an overlap of 1", P - 1, 0, TV_OVERLAP, 1);
-    reading("word 2147483647 is no residue", P, 4, 0, 0);
+    reading("residue 0 is contact", 0, DONE, TV_CONTACT, 0);
+    reading("residue 1 is free by 1", 1, DONE, TV_FREE, 1);
+    reading("residue 1073741823 is free by as much", 1073741823, DONE, TV_FREE, TV_MAX_CLEARANCE);
+    reading("residue 1073741824 is an overlap of 1073741823", 1073741824, DONE, TV_OVERLAP, TV_MAX_CLEARANCE);
+    reading("residue 2147483646 is an overlap of 1", P - 1, DONE, TV_OVERLAP, 1);
+    reading("word 2147483647 is no residue", P, WORD(0, 4), 0, 0);
+    reading("word 4294967295 is none", UINT32_MAX, WORD(0, 4), 0, 0);
 
     to_coefficients("clearance -1 is residue 2147483646, at depth 0", LIST(NEGATIVE(1)), DONE, LIST(2147483646u));
     to_coefficients("clearance 1073741824 is refused", LIST(1073741824), NUMBER(9), AS_IT_WAS(1));
@@ -230,7 +242,8 @@ static void clearances(void)
     to_table("residue 1073741824 is clearance -1073741823", LIST(1073741824), DONE, LIST(NEGATIVE(1073741823)), ZEROS(1));
     to_table("coefficients 3 2 1 4 to table", LIST(3, 2, 1, 4), DONE, LIST(3, 5, 4, 10), ZEROS(4));
     to_table("message of length 3", LIST(1, 2, 3), NUMBER(1), AS_IT_WAS(3), AS_IT_WAS(3));
-    to_table("message word 2147483647", LIST(1, P), NUMBER(4), AS_IT_WAS(2), AS_IT_WAS(2));
+    to_table("message word 2147483647", LIST(1, P), WORD(1, 4), AS_IT_WAS(2), AS_IT_WAS(2));
+    to_table("two of them", LIST(1, P, P, 5), WORD(1, 4), AS_IT_WAS(4), AS_IT_WAS(4));
 }
 
 static void codewords(void)
@@ -238,14 +251,15 @@ static void codewords(void)
     code c = depth_1(), other = c;
     evaluate("5 + 7 * 3", 1, LIST(5, 7), LIST(3), DONE, LIST(26));
     evaluate("point word 2147483646", 1, LIST(5, 7), LIST(P - 1), DONE, LIST(P - 2));
-    evaluate("point word 2147483647", 1, LIST(5, 7), LIST(P), NUMBER(4), AS_IT_WAS(1));
+    evaluate("point word 2147483647", 1, LIST(5, 7), LIST(P), WORD(0, 5), AS_IT_WAS(1));
+    evaluate("the same and the last message word", 1, LIST(5, P), LIST(P), WORD(1, 4), AS_IT_WAS(1));
     evaluate("evaluation of two words at depth 17", 17, LIST(5, 7), LIST(3), NUMBER(3), AS_IT_WAS(1));
     evaluate("evaluation at depth 21", 21, LIST(5, 7), LIST(3), NUMBER(1), AS_IT_WAS(1));
 
     encode("message 5 7 encoded", c, LIST(5, 7), DONE, OF(block_1));
     encode("message 9 encoded at depth 0", depth_0(), LIST(9), DONE, LIST(9, 9));
     encode("message word 2147483646", c, LIST(0, P - 1), DONE, LIST(P - 2, P - 3, 2, 3));
-    encode("message word 2147483647", c, LIST(5, P), NUMBER(4), AS_IT_WAS(4));
+    encode("message word 2147483647", c, LIST(5, P), WORD(1, 4), AS_IT_WAS(4));
     encode("block of another length", c, LIST(5, 7), NUMBER(3), AS_IT_WAS(3));
     other.depth = 21;
     encode("depth 21", other, LIST(5, 7), NUMBER(1), AS_IT_WAS(4));
@@ -256,18 +270,18 @@ static void codewords(void)
     encode("rate 17", other, LIST(5, 7), NUMBER(2), AS_IT_WAS(4));
     other = c;
     other.t2 = LIST(2147483645u, 3);
-    encode("diagonals equal at 1", other, LIST(5, 7), NUMBER(6), AS_IT_WAS(4));
+    encode("diagonals equal at 1", other, LIST(5, 7), EQUAL_AT(1), AS_IT_WAS(4));
     other.g = LIST(1, 0);
-    encode("the same and a zero in the row", other, LIST(5, 7), NUMBER(5), AS_IT_WAS(4));
+    encode("the same and a zero in the row", other, LIST(5, 7), ZERO_AT(1), AS_IT_WAS(4));
 
     decode("that block decoded", c, OF(block_1), DONE, LIST(5, 7), ZEROS(4));
     decode("its last word 2147483632", c, LIST(19, 26, 2147483638u, 2147483632u), NUMBER(8), AS_IT_WAS(2), ZEROS(4));
-    decode("its last word 2147483647", c, LIST(19, 26, 2147483638u, P), NUMBER(4), AS_IT_WAS(2), AS_IT_WAS(4));
+    decode("its last word 2147483647", c, LIST(19, 26, 2147483638u, P), WORD(3, 4), AS_IT_WAS(2), AS_IT_WAS(4));
 
     fold("that block folded by 4", 1, OF(block_1), 4, DONE, LIST(33, 33));
     fold("folded from level 0", 0, OF(block_1), 4, NUMBER(1), AS_IT_WAS(2));
     fold("folded from level 21", 21, OF(block_1), 4, NUMBER(1), AS_IT_WAS(2));
-    fold("folded by 2147483647", 1, OF(block_1), P, NUMBER(4), AS_IT_WAS(2));
+    fold("folded by 2147483647", 1, OF(block_1), P, WORD(0, 7), AS_IT_WAS(2));
 }
 
 static void openings(void)
@@ -277,7 +291,7 @@ static void openings(void)
     write_opening("5 7 opened at 3 by 4", c, LIST(5, 7), LIST(3), LIST(4), DONE, o, ZEROS(4), LIST(26));
     write_opening("5 7 opened at 0 by 1", c, LIST(5, 7), LIST(0), LIST(1), DONE, OF(opening_0), ZEROS(4), LIST(5));
     write_opening("9 opened at depth 0", depth_0(), LIST(9), NONE, NONE, DONE, LIST(9), ZEROS(2), LIST(9));
-    write_opening("challenge 2147483647", c, LIST(5, 7), LIST(3), LIST(P), NUMBER(4), AS_IT_WAS(6), AS_IT_WAS(4), AS_IT_WAS(1));
+    write_opening("challenge 2147483647", c, LIST(5, 7), LIST(3), LIST(P), WORD(0, 7), AS_IT_WAS(6), AS_IT_WAS(4), AS_IT_WAS(1));
 
     verify("26 claimed, queries 0 1", c, block, LIST(3), 26, LIST(4), LIST(0, 1), o, DONE);
     verify("27 claimed: sum 1", c, block, LIST(3), 27, LIST(4), LIST(0, 1), o, (tv_answer){20, 1, 0});
@@ -310,9 +324,51 @@ static void repeats(void)
     verify("queries 2 2", c, block, z, 26, r, LIST(2, 2), o, NUMBER(7));
     verify("query 1, 256 times", c, block, z, 26, r, repeated(3, 1, 256), o, NUMBER(11));
     verify("query 1, 257 times", c, block, z, 26, r, repeated(3, 1, 257), o, NUMBER(7));
-    verify("queries 0 0, block word 2147483647", c, LIST(19, 26, P - 9, P), z, 26, r, LIST(0, 0), o, NUMBER(4));
+    verify("queries 0 0, block word 2147483647", c, LIST(19, 26, P - 9, P), z, 26, r, LIST(0, 0), o, WORD(3, 4));
     zero.g = LIST(1, 0);
-    verify("queries 0 0, a zero in the row", zero, block, z, 26, r, LIST(0, 0), o, NUMBER(5));
+    verify("queries 0 0, a zero in the row", zero, block, z, 26, r, LIST(0, 0), o, ZERO_AT(1));
+}
+
+/* At depth 2, where level 1 of the diagonals begins at word 2: an index counts over all levels. */
+static void places(void)
+{
+    const code c = {2, 2, OF(row), LIST(2, 3, 4, 5, 6, 7), LIST(8, 9, 10, 11, 12, 13)};
+    code other = c;
+    list message = LIST(5, 7, 11, 13);
+    other.t2 = LIST(8, 9, 10, 5, 12, 7);
+    encode("diagonals equal at 3 and 5", other, message, EQUAL_AT(3), AS_IT_WAS(8));
+    decode("the same, decoding", other, repeated(0, 9, 8), EQUAL_AT(3), AS_IT_WAS(4), AS_IT_WAS(8));
+    other.g = LIST(0, 0);
+    encode("and two zeros in the row", other, message, ZERO_AT(0), AS_IT_WAS(8));
+    encode("and message words 2 and 3 too large", other, LIST(5, 7, P, P), WORD(2, 4), AS_IT_WAS(8));
+    other.t2 = LIST(8, 9, 10, 5, P, 7);
+    encode("and word 4 of t2", other, LIST(5, 7, P, P), WORD(4, 3), AS_IT_WAS(8));
+    other.t = LIST(2, 3, 4, 5, 6, UINT32_MAX);
+    encode("and word 5 of t", other, LIST(5, 7, P, P), WORD(5, 2), AS_IT_WAS(8));
+    other.g = LIST(0, P);
+    encode("and word 1 of g", other, LIST(5, 7, P, P), WORD(1, 1), AS_IT_WAS(8));
+
+    list block = repeated(0, 9, 8), wrong = LIST(9, 9, 9, 9, 9, 9, P, 9);
+    fold_by("level 1 alone, its diagonals equal at 2", 2, LIST(4, 5, 6, 7), LIST(9, 8, 6, 6), block, 4, EQUAL_AT(2), AS_IT_WAS(4));
+    fold_by("the same, by 2147483647", 2, LIST(4, 5, 6, 7), LIST(9, 8, 6, 6), block, P, WORD(0, 7), AS_IT_WAS(4));
+    fold_by("and block word 6", 2, LIST(4, 5, 6, 7), LIST(9, 8, 6, 6), wrong, P, WORD(6, 4), AS_IT_WAS(4));
+    fold_by("and word 3 of t2", 2, LIST(4, 5, 6, 7), LIST(9, 8, 6, P), wrong, P, WORD(3, 3), AS_IT_WAS(4));
+    fold_by("and word 0 of t", 2, LIST(P, 5, 6, 7), LIST(9, 8, 6, P), wrong, P, WORD(0, 2), AS_IT_WAS(4));
+
+    list z = LIST(3, 4), r = LIST(5, 6), z_1 = LIST(3, P), r_1 = LIST(5, P), large = LIST(P, P), none = NONE;
+    write_opening("word 1 of r", c, message, z, r_1, WORD(1, 7), AS_IT_WAS(13), AS_IT_WAS(8), AS_IT_WAS(1));
+    write_opening("all of z and r", c, message, large, large, WORD(0, 5), AS_IT_WAS(13), AS_IT_WAS(8), AS_IT_WAS(1));
+    write_opening("and the last message word", c, LIST(5, 7, 11, P), large, large, WORD(3, 4), AS_IT_WAS(13), AS_IT_WAS(8), AS_IT_WAS(1));
+
+    list opening = LIST(9, 9, 9, 9, 9, 9, 9, 9, 9, 9, 9, P, P);
+    verify("words 11 and 12 of the opening, no query", c, block, z, 9, r, none, opening, WORD(11, 8));
+    verify("and word 1 of r", c, block, z, 9, r_1, none, opening, WORD(1, 7));
+    verify("and y", c, block, z, P, r_1, none, opening, WORD(0, 6));
+    verify("and word 1 of z", c, block, z_1, P, r_1, none, opening, WORD(1, 5));
+    verify("and block word 6", c, wrong, z_1, P, r_1, none, opening, WORD(6, 4));
+    other = c;
+    other.t = LIST(2, 3, 4, P, 6, 7);
+    verify("and word 3 of t", other, wrong, z_1, P, r_1, none, opening, WORD(3, 2));
 }
 
 /* At depth 2 query 2 goes on at place 0 of level 1. By hand: f is 5 + 7 X_0 + 11 X_1 + 13 X_0 X_1; round 2 is (26 + 50 X)(7 X - 3), round 1
@@ -381,6 +437,7 @@ int main(void)
     codewords();
     openings();
     repeats();
+    places();
     second_half();
     lists();
     deep();

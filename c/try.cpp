@@ -1,4 +1,4 @@
-/* The header from C++: the lengths as constants, the numbers, and empty vectors. */
+/* The header from C++: the lengths as constants, the numbers and places, and empty vectors. */
 #include "tvarchula.h"
 
 #include <cstdio>
@@ -10,6 +10,7 @@ static_assert(TV_BLOCK_LEN(20, 16) == 16777216, "words of a block");
 static_assert(TV_DIAGONALS_LEN(1, 2) == 2 && TV_DIAGONALS_LEN(0, 2) == 0, "words of a diagonal");
 static_assert(TV_OPENING_LEN(20, 16) == 16777261 && TV_OPENING_LEN(0, 2) == 1, "words of an opening");
 static_assert(TV_MAX_TABLE_LEN == TV_MESSAGE_LEN(TV_MAX_DEPTH), "the longest table");
+static_assert(sizeof(tv_answer) == 12 && sizeof(tv_reading) == 20, "answers have no gaps");
 
 /* data() of an empty vector may be null; a slice's pointer may not. */
 static const uint32_t *at(const std::vector<uint32_t> &words)
@@ -47,5 +48,25 @@ int main()
         for (const uint32_t b : listed)
             if (a < b && std::strcmp(tv_number_text(a), tv_number_text(b)) == 0)
                 return 1;
-    return std::strcmp(tv_number_text(24), tv_number_text(10)) == 0 ? 0 : 1;
+    if (std::strcmp(tv_number_text(24), tv_number_text(10)) != 0)
+        return 1;
+    /* So has every input that 4 names, and 0 and 9 are none. */
+    for (uint32_t a = TV_INPUT_G; a <= TV_INPUT_OPENING; a++)
+        for (uint32_t b = 0; b <= TV_INPUT_OPENING + 1; b++)
+            if (a != b && std::strcmp(tv_input_text(a), tv_input_text(b)) == 0)
+                return 1;
+    if (std::strcmp(tv_input_text(0), tv_input_text(TV_INPUT_OPENING + 1)) != 0)
+        return 1;
+    /* Where a refused word is, for people. */
+    const std::vector<uint32_t> wrong = {9, TV_MODULUS};
+    const tv_answer refused = tv_verify_opening(0, 2, SLICE(g), SLICE(none), SLICE(none), SLICE(wrong), SLICE(none), 9, SLICE(none),
+                                                SLICE(none), SLICE(opening));
+    std::printf("%s: word %u of %s\n", tv_number_text(refused.number), static_cast<unsigned>(refused.first),
+                tv_input_text(refused.second));
+    if (refused.number != TV_REFUSED_WORD || refused.first != 1 || refused.second != TV_INPUT_BLOCK)
+        return 1;
+    const tv_reading reading = tv_read_clearance(TV_MODULUS);
+    const tv_answer &answer = reading.answer;
+    const bool named = answer.number == TV_REFUSED_WORD && answer.first == 0 && answer.second == TV_INPUT_BLOCK;
+    return named && reading.kind == 0 && reading.amount == 0 ? 0 : 1;
 }

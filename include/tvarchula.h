@@ -25,9 +25,9 @@
  * when declarations and answers stay, MINOR when some are added, MAJOR when one changes or goes. As long as MAJOR is 0, MINOR moves for
  * changes too. A program and its archive have MAJOR and MINOR in common. */
 #define TV_VERSION_MAJOR 0
-#define TV_VERSION_MINOR 4
+#define TV_VERSION_MINOR 5
 #define TV_VERSION_PATCH 0
-#define TV_VERSION "0.4.0"
+#define TV_VERSION "0.5.0"
 
 /* Limits. */
 #define TV_MODULUS 2147483647u
@@ -46,9 +46,10 @@
                                       message's on the way back, that is no power of two from 1 to TV_MAX_TABLE_LEN */
 #define TV_REFUSED_RATE 2u         /* rate not TV_MIN_RATE to TV_MAX_RATE */
 #define TV_REFUSED_LENGTH 3u       /* a slice, result and work included, that has not its exact length; for the query list see 7 */
-#define TV_REFUSED_WORD 4u         /* a word or single value that is read is TV_MODULUS or more; for the query list see 7 */
-#define TV_REFUSED_ROW 5u          /* a zero in the base row */
-#define TV_REFUSED_DIAGONALS 6u    /* t and t2 are equal in some place */
+#define TV_REFUSED_WORD 4u         /* a word or single value that is read is TV_MODULUS or more; for the query list see 7; first is the
+                                      index of the first such word in its input as lent, second is the input, TV_INPUT_G and so on */
+#define TV_REFUSED_ROW 5u          /* a zero in the base row; first is the index of the first one in g */
+#define TV_REFUSED_DIAGONALS 6u    /* t and t2 are equal in some place; first is the index of the first such place in t as lent */
 #define TV_REFUSED_QUERIES 7u      /* the query list is too short or too long, or a place in it is too large */
 #define TV_REFUSED_NO_CODEWORD 8u  /* decoding: a well-formed block is no codeword */
 #define TV_REFUSED_CLEARANCE 9u    /* a clearance outside -TV_MAX_CLEARANCE to TV_MAX_CLEARANCE */
@@ -57,6 +58,17 @@
 #define TV_FAILED_FINAL 21u        /* verifying: the final check fails */
 #define TV_FAILED_BASE 22u         /* verifying: base check j fails; first is j */
 #define TV_FAILED_FOLD 23u         /* verifying: a fold check fails; first is the query's position from 0, second the level */
+
+/* The inputs that 4 names, in the order in which they are judged: the first of them that has a word of TV_MODULUS or more is named. A
+ * single value has the index 0. */
+#define TV_INPUT_G 1u
+#define TV_INPUT_T 2u
+#define TV_INPUT_T2 3u
+#define TV_INPUT_BLOCK 4u          /* the block or the message, whichever is read; tv_read_clearance: the word */
+#define TV_INPUT_Z 5u
+#define TV_INPUT_Y 6u
+#define TV_INPUT_R 7u              /* r; tv_fold: the challenge */
+#define TV_INPUT_OPENING 8u
 
 /* What a reading is. Only TV_FREE may be passed: stop at every other kind, at one that is not listed here too. */
 #define TV_FREE 1u                 /* above zero; amount is the distance */
@@ -87,20 +99,22 @@
 extern "C" {
 #endif
 
-/* first and second are the places that the number names, else 0. */
+/* first and second are the places that the number names, else 0. Of the refusals only 4, 5 and 6 name one: 4 has the index in first and the
+ * input in second, 5 and 6 have the index in first. Every index counts from 0, over the whole slice as it was lent. */
 typedef struct {
     uint32_t number, first, second;
 } tv_answer;
 
 /* kind is TV_FREE, TV_OVERLAP or TV_CONTACT, amount is in micrometres; both are 0 when refused. */
 typedef struct {
-    uint32_t number, kind, amount;
+    tv_answer answer;
+    uint32_t kind, amount;
 } tv_reading;
 
 /* In what follows a length in words stands behind each slice: m is TV_MESSAGE_LEN(depth), n is TV_BLOCK_LEN(depth, rate), and l is
  * TV_DIAGONALS_LEN(depth, rate). Level i of t and t2 begins at TV_DIAGONALS_LEN(i, rate) and has TV_BLOCK_LEN(i, rate) words. */
 
-/* Reads a word as a clearance. Answers 0 or 4. Of the kinds only TV_FREE may be passed. */
+/* Reads a word as a clearance. Answers 0, or 4 with the index 0 and TV_INPUT_BLOCK. Of the kinds only TV_FREE may be passed. */
 TV_MUST_USE tv_reading tv_read_clearance(uint32_t word);
 
 /* Reads clearances (a power of two, up to TV_MAX_TABLE_LEN). Writes message (as many). */
@@ -165,6 +179,22 @@ static inline const char *tv_number_text(uint32_t number)
     case TV_FAILED_BASE: return "rejected: the lowest block does not fit the final value";
     case TV_FAILED_FOLD: return "rejected: a query finds a wrong fold";
     default: return "a number that this header does not know: the archive is of another version";
+    }
+}
+
+/* The input that 4 names in second, for people. */
+static inline const char *tv_input_text(uint32_t input)
+{
+    switch (input) {
+    case TV_INPUT_G: return "g";
+    case TV_INPUT_T: return "t";
+    case TV_INPUT_T2: return "t2";
+    case TV_INPUT_BLOCK: return "the message, block or word";
+    case TV_INPUT_Z: return "z";
+    case TV_INPUT_Y: return "y";
+    case TV_INPUT_R: return "r or the challenge";
+    case TV_INPUT_OPENING: return "the opening";
+    default: return "an input that this header does not know: the archive is of another version";
     }
 }
 

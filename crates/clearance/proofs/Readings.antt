@@ -7,12 +7,14 @@ use lib.Dec.{ltb}
 use lib.IntN.{pos}
 use borrow.Author.Tests.{ltb-true, lt-ltb}
 use Rattle.algebra.specs.Words.{PrimeField}
-use Rattle.job.specs.Outcome.{refused, done}
-use Rattle.job.specs.OutcomeLaws.{stop, pass}
+use Rattle.job.specs.Outcome.{Outcome, refused, done}
+use Rattle.job.specs.declared.Input.the-variants.{Block}
+use Rattle.job.specs.OutcomeLaws.{after-refused, after-done, refuses, holds-demand}
 use Rattle.residue.specs.declared.Residue.{Residue}
 use Rattle.residue.specs.declared.Parsed.the-variants.{Residue as Is, TooLarge}
 use Rattle.residue.specs.Elements.{parsed, parsedBy}
-use Rattle.clearance.specs.Clearances.{border, meaning, free, contact, overlap}
+use Rattle.places.specs.FlagLaws.{one-word}
+use Rattle.clearance.specs.Clearances.{clearanceOf, border, Meaning, meaning, free, contact, overlap}
 use Rattle.clearance.specs.ClearanceLaws.{by-pos, by-negsuc}
 use Rattle.clearance.specs.Reading.{reading}
 
@@ -24,12 +26,12 @@ pub record Same (p w v : ℕ) : Type 0 where
 module _ (𝓕 : PrimeField) where
   open PrimeField 𝓕 using (modulus as P, above)
 
-  pub no-residue : (w : ℕ) → TooLarge ≡ parsed 𝓕 w → refused (4, 0, 0) ≡ reading 𝓕 w
+  pub no-residue : (w : ℕ) → TooLarge ≡ parsed 𝓕 w → refused (4, 0, 4) ≡ reading 𝓕 w
   no-residue w e = go (ltb w P) refl e
     where
-      go : (b : Bool) → ltb w P ≡ b → TooLarge ≡ parsedBy 𝓕 b w → refused (4, 0, 0) ≡ reading 𝓕 w
+      go : (b : Bool) → ltb w P ≡ b → TooLarge ≡ parsedBy 𝓕 b w → refused (4, 0, 4) ≡ reading 𝓕 w
       go true p q = absurd (let z : _≡_ {A = ℕ} 0 1 = cc in omega arith)
-      go false p q = stop _ p
+      go false p q = after-refused _ (refuses _ p ∙ sym (one-word 𝓕 Block w))
 
   pub a-residue : (w : ℕ) (r : Residue) → Is r ≡ parsed 𝓕 w → Same P w (r .0)
   a-residue w r e = go (ltb w P) refl e
@@ -38,9 +40,13 @@ module _ (𝓕 : PrimeField) where
       go true p q = let s : r ≡ record { 0 = w } = cc in record { is = ap (λ x. x .0) s; low = ltb-true w P p }
       go false p q = absurd (let z : _≡_ {A = ℕ} 0 1 = cc in omega arith)
 
+  -- a residue is not refused
+  low-word : (w : ℕ) → w < P → {x : Outcome Meaning} → x ≡ done (meaning (clearanceOf 𝓕 w)) → x ≡ reading 𝓕 w
+  low-word w l e = after-done (holds-demand _ (lt-ltb w P l) ∙ sym (one-word 𝓕 Block w)) e
+
   -- a word below the border is its distance
   below-border : (w : ℕ) → w < border 𝓕 → done (meaning (pos w)) ≡ reading 𝓕 w
-  below-border w h = pass 4 (lt-ltb w P (omega (arith, above))) (sym (ap (λ x. done (meaning x)) (by-pos _ P w h)))
+  below-border w h = low-word w (omega (arith, above)) (sym (ap (λ x. done (meaning x)) (by-pos _ P w h)))
 
   pub reads-contact : (w : ℕ) → w ≡ 0 → done contact ≡ reading 𝓕 w
   reads-contact w e = below-border 0 (omega (arith, above)) ∙ ap (reading 𝓕) (sym e)
@@ -56,4 +62,4 @@ module _ (𝓕 : PrimeField) where
       go zero e = absurd (omega arith)
       go (suc n) e =
           ap (λ k. done (overlap k)) e
-          ∙ pass 4 (lt-ltb w P l) (sym (ap (λ x. done (meaning x)) (by-negsuc _ P w n h e)))
+          ∙ low-word w l (sym (ap (λ x. done (meaning x)) (by-negsuc _ P w n h e)))

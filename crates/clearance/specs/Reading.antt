@@ -1,15 +1,17 @@
 -- What reading a word as a clearance gives. Assumes nothing.
+use mathlib.Core.List.{[], _∷_}
 use Prim.Native.Nat.{ℕ}
-use lib.Dec.{ltb}
 use Rattle.algebra.specs.Words.{PrimeField}
-use Rattle.job.specs.Outcome.{Outcome, refused, done, require, _⨾_, due}
+use Rattle.job.specs.declared.Input.the-variants.{Block}
+use Rattle.job.specs.Outcome.{Outcome, refused, done, _⨾_, due}
+use Rattle.places.specs.Inputs.{judgeWords}
 use Rattle.clearance.specs.Clearances.{clearanceOf, Meaning, free, contact, overlap, meaning}
 use Rattle.clearance.specs.declared.reading.Reading.{Reading}
 use Rattle.clearance.specs.declared.reading.Reading.the-variants.{Free, Contact, Overlap, Refused}
 
--- refusal 4 for a word that is no residue of the field, else what the clearance means
+-- the word counts as the block: refusal 4 where it is no residue of the field, else what the clearance means
 abbrev pub reading : PrimeField → ℕ → Outcome Meaning
-reading 𝓕 w = require (ltb w (𝓕 .modulus)) 4 ⨾ done (meaning (clearanceOf 𝓕 w))
+reading 𝓕 w = judgeWords 𝓕 ((Block, w ∷ []) ∷ []) ⨾ done (meaning (clearanceOf 𝓕 w))
 
 -- what each case of the answer says
 abbrev pub readingOutcome : Reading → Outcome Meaning

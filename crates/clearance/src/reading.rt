@@ -3,6 +3,7 @@ ghost use mathlib.Core.Path.{_≡_};
 ghost use Rattle.algebra.specs.Words.{𝔽₁};
 ghost use Rattle.residue.specs.Chosen.{chosen};
 ghost use Rattle.clearance.specs.Reading.{reading, readingOutcome};
+use job::Input;
 use job::Refusal;
 use residue::Field;
 use residue::Parsed;
@@ -16,12 +17,13 @@ pub enum Reading {
     Refused(Refusal),
 }
 
+// The word is the whole block, so its place is 0.
 fn read(word: u32, field: Field) -> Reading
     ensures { λ r. ⌜ readingOutcome r ≡ reading (chosen field) word ⌝ }
 {
     let r = match Residue::from_word(word, field) {
         Parsed::Residue(r) => r,
-        Parsed::TooLarge => return Reading::Refused(Refusal::Word),
+        Parsed::TooLarge => return Reading::Refused(Refusal::Word(Input::Block, 0)),
     };
     let w = r.word();
     if w == 0 {

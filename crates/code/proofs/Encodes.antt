@@ -1,9 +1,10 @@
 -- What is known once a message may be encoded. Assumes nothing.
 use mathlib.Core.Path.{_≡_, sym, ap, _∙_}
-use mathlib.Core.Bool.{_&&_}
-use mathlib.Core.List.{List}
+use mathlib.Core.Bool.{Bool, _&&_}
+use mathlib.Core.List.{List, [], _∷_}
 use Prim.Native.Nat.{ℕ, _*_, _^_}
 use native.Mathlib.Nat.{mul-comm}
+use native.Mathlib.Omega.{arith}
 use lib.Dec.{eqb}
 use lib.ListN.{length}
 use borrow.Author.Tests.{eqb-true}
@@ -13,16 +14,28 @@ use Rattle.algebra.specs.WordLists.{low-words, elements, toWords, elements-word
 use Rattle.foldable.specs.Code.{encode}
 use Rattle.foldable.specs.Lift.{lift, lift-spread}
 use Rattle.job.specs.Outcome.{done}
-use Rattle.job.specs.OutcomeLaws.{require-done, both}
-use Rattle.job.specs.Limits.{blockSize}
+use Rattle.job.specs.declared.Input.the-variants.{Block}
+use Rattle.job.specs.OutcomeLaws.{demand-done}
+use Rattle.job.specs.Limits.{depthOk, rateOk, blockSize}
+use Rattle.job.specs.LimitLaws.{depth-most, power-most}
 use Rattle.words.specs.Scans.{allBelow}
 use Rattle.words.specs.ScanLaws.{all-below}
 use Rattle.parameters.specs.Lent.{lent}
-use Rattle.parameters.specs.Parameters.{limits, rowLengths, rowWords}
-use Rattle.parameters.specs.ParameterLaws.{row-lengths, lent-coding}
+use Rattle.parameters.specs.Parameters.{inLimits, rowLengths, Sized}
+use Rattle.parameters.specs.ParameterLaws.{row-lengths, row-short, row-passed, lent-coding}
 use Rattle.code.specs.Encoding.{encodeLengths, judgeEncoding, EncodeInput}
 use Rattle.code.specs.Steps.{SpreadInput, LiftInput}
 use Rattle.code.proofs.Spreads.{length-spreaded, spreaded}
+
+-- where the lengths are right, each word has an index
+pub encode-sized : (d c : ℕ) (g t t' m : List ℕ) (n : ℕ) {l : Bool} → l ≡ (inLimits d c && encodeLengths d c (length g) (length t) (length t') (length m) n) → Sized l g t t' m [] [] [] []
+unfolding encodeLengths
+encode-sized d c g t t' m n e f =
+    let a = and-both (inLimits d c) _ (sym e ∙ f) in
+    let b = and-both (rowLengths d c (length g) (length t) (length t')) _ (a .1) in
+    let s = eqb-true (length m) (2 ^ d) (and-both (eqb (length m) (2 ^ d)) _ (b .1) .0) in
+    let most = power-most d (depth-most d (and-both (depthOk d) (rateOk c) (a .0) .0)) in
+    row-short d c g t t' m [] [] [] [] (a .0) (b .0) (omega (arith, s, most)) (omega arith) (omega arith) (omega arith) (omega arith)
 
 module _ (𝓕 : PrimeField) where
   open PrimeField 𝓕 using (field as F)
@@ -31,16 +44,13 @@ module _ (𝓕 : PrimeField) where
   pub encodes : (d c : ℕ) (g t t' m : List ℕ) (n : ℕ) → judgeEncoding 𝓕 d c g t t' m n ≡ done tt → EncodeInput 𝓕 d g t t' m n
   unfolding judgeEncoding encodeLengths
   encodes d c g t t' m n e =
-      let a = both (limits d c) e .1 in
-      let b = require-done (encodeLengths d c (length g) (length t) (length t') (length m) n) 3 a in
-      let k = require-done (rowWords 𝓕 g t t' && allBelow 𝓕 m) 4 (b .1) in
-      let l = and-both (rowLengths d c (length g) (length t) (length t')) _ (b .0) in
+      let p = row-passed 𝓕 d c g t t' (encodeLengths d c (length g) (length t) (length t') (length m) n) ((Block, m) ∷ []) e in
+      let l = and-both (rowLengths d c (length g) (length t) (length t')) _ (p .lengths) in
       let s = and-both (eqb (length m) (2 ^ d)) _ (l .1) in
-      let w = and-both (rowWords 𝓕 g t t') _ (k .0) in
       record {
-        coding = lent-coding 𝓕 d c g t t' (l .0) (w .0) (k .1);
+        coding = lent-coding 𝓕 d c g t t' (l .0) (p .words) (p .row);
         message = eqb-true _ _ (s .0);
-        words = all-below 𝓕 m (w .1);
+        words = all-below 𝓕 m (demand-done (allBelow 𝓕 m) _ (p .others) .0);
         size = eqb-true _ _ (s .1) ∙ ap (λ r. blockSize r d) (sym (row-lengths d c _ _ _ (l .0) .row));
       }
 

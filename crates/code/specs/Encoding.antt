@@ -1,18 +1,18 @@
 -- The job of encoding: its answer and its result, for every input. Assumes nothing.
 use mathlib.Core.Path.{_≡_}
 use mathlib.Core.Bool.{Bool, _&&_}
-use mathlib.Core.List.{List}
+use mathlib.Core.List.{List, [], _∷_}
 use Prim.Native.Nat.{ℕ, _^_}
 use lib.Dec.{eqb}
 use lib.ListN.{length}
 use Rattle.algebra.specs.Words.{PrimeField}
 use Rattle.algebra.specs.WordLists.{Low}
 use Rattle.job.specs.declared.Answer.{Answer}
+use Rattle.job.specs.declared.Input.the-variants.{Block}
 use Rattle.job.specs.Outcome.{Outcome, outcome, kept}
 use Rattle.job.specs.Limits.{blockSize}
-use Rattle.words.specs.Scans.{allBelow}
 use Rattle.parameters.specs.Lent.{codeword, Coding}
-use Rattle.parameters.specs.Parameters.{rowLengths, rowWords, judgeRow}
+use Rattle.parameters.specs.Parameters.{rowLengths, judgeRow}
 
 -- of the lengths of g, T, T', message and result
 unfoldable pub encodeLengths : ℕ → ℕ → ℕ → ℕ → ℕ → ℕ → ℕ → Bool
@@ -24,7 +24,7 @@ module _ (𝓕 : PrimeField) where
   -- the outcome, with a result of n words
   unfoldable pub judgeEncoding : ℕ → ℕ → List ℕ → List ℕ → List ℕ → List ℕ → ℕ → Outcome (Unit {0})
   judgeEncoding d c g t t' m n =
-      judgeRow d c g t t' (encodeLengths d c (length g) (length t) (length t') (length m) n) (rowWords 𝓕 g t t' && allBelow 𝓕 m)
+      judgeRow 𝓕 d c g t t' (encodeLengths d c (length g) (length t) (length t') (length m) n) ((Block, m) ∷ [])
 
   -- answer r and result out: refused as above, and out as it was; or out is the message times the generator matrix
   pub record Encoded (d c : ℕ) (g t t' m old : List ℕ) (r : Answer) (out : List ℕ) : Type 0 where

@@ -57,7 +57,7 @@ fn judge(
     let lengths = lengths_ok(depth, rate, g.len(), t.len(), t2.len(), m.len(), out);
     let row = parameters::scan_row(lengths, g, t, t2, field);
     let words = parameters::all_words_ok(row.words, m, field);
-    parameters::judge(depth, rate, g, lengths, words, row.apart)
+    parameters::judge_block(depth, rate, g, t, t2, m, lengths, words, row.apart, field)
 }
 
 pub fn encode(

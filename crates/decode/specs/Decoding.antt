@@ -1,7 +1,7 @@
 -- The job of decoding: its answer, its result and its work buffer, for every input. Definitions only. Assumes nothing.
 use mathlib.Core.Path.{_≡_}
 use mathlib.Core.Bool.{Bool, _&&_}
-use mathlib.Core.List.{List}
+use mathlib.Core.List.{List, [], _∷_}
 use Prim.Native.Nat.{ℕ, _^_}
 use lib.Dec.{eqb}
 use lib.ListN.{length, replicate}
@@ -9,11 +9,11 @@ use Rattle.algebra.specs.Words.{PrimeField}
 use Rattle.algebra.specs.WordLists.{Low, elements}
 use Rattle.foldable.specs.Code.{Codeword}
 use Rattle.job.specs.declared.Answer.{Answer}
+use Rattle.job.specs.declared.Input.the-variants.{Block}
 use Rattle.job.specs.Outcome.{Numbers, Outcome, refused, done, outcome}
 use Rattle.job.specs.Limits.{blockSize}
-use Rattle.words.specs.Scans.{allBelow}
 use Rattle.parameters.specs.Lent.{lent, codeword}
-use Rattle.parameters.specs.Parameters.{rowLengths, rowWords, judgeRow}
+use Rattle.parameters.specs.Parameters.{rowLengths, judgeRow}
 
 -- of the lengths of g, T, T', block, result and work buffer
 unfoldable pub decodeLengths : ℕ → ℕ → ℕ → ℕ → ℕ → ℕ → ℕ → ℕ → Bool
@@ -25,7 +25,7 @@ module _ (𝓕 : PrimeField) where
   -- the refusals 1 to 6, with a result of m words and a work buffer of k
   unfoldable pub judgeDecoding : ℕ → ℕ → List ℕ → List ℕ → List ℕ → List ℕ → ℕ → ℕ → Outcome (Unit {0})
   judgeDecoding d c g t t' b m k =
-      judgeRow d c g t t' (decodeLengths d c (length g) (length t) (length t') (length b) m k) (rowWords 𝓕 g t t' && allBelow 𝓕 b)
+      judgeRow 𝓕 d c g t t' (decodeLengths d c (length g) (length t) (length t') (length b) m k) ((Block, b) ∷ [])
 
   -- answer r and result out for a block for which none of these is due: out is a message whose codeword it is; or it is no codeword, and out is as it was
   pub data Settled (d : ℕ) (g t t' b old : List ℕ) (r : Answer) (out : List ℕ) : Type 0 where

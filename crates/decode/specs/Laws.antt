@@ -1,7 +1,7 @@
 -- What holds where a block may be decoded, and what the contract of decoding says of two results and of codewords. Assumes nothing.
 use mathlib.Core.Path.{_≡_, sym, ap, _∙_}
 use mathlib.Core.Logic.{_↔_}
-use mathlib.Core.Bool.{_&&_}
+use mathlib.Core.Bool.{Bool, _&&_}
 use mathlib.Core.List.{List, [], _∷_}
 use Prim.Native.Nat.{ℕ, _^_, _<_, _≤_}
 use native.Mathlib.Nat.{one-mul}
@@ -18,17 +18,29 @@ use Rattle.algebra.specs.WordLists.{Low, elements, toWords, length-elements, el
 use Rattle.foldable.specs.Code.{Codeword}
 use Rattle.foldable.specs.Decode.{Decoder, rowDecoder, unique-decoded}
 use Rattle.job.specs.declared.Answer.{Answer}
+use Rattle.job.specs.declared.Input.the-variants.{Block}
 use Rattle.job.specs.Outcome.{Numbers, Outcome, refused, done, outcome}
-use Rattle.job.specs.OutcomeLaws.{require-done, held, both, same-answer, named}
-use Rattle.job.specs.Limits.{maxDepth, blockSize, diagonalsSize}
-use Rattle.job.specs.LimitLaws.{rate-least, rate-most}
+use Rattle.job.specs.OutcomeLaws.{demand-done, demand-held, same-answer, named}
+use Rattle.job.specs.Limits.{maxDepth, depthOk, rateOk, blockSize, diagonalsSize}
+use Rattle.job.specs.LimitLaws.{depth-most, rate-least, rate-most, power-most, product-most}
 use Rattle.words.specs.Scans.{allBelow, noneZero, allDiffer}
 use Rattle.words.specs.ScanLaws.{all-below, none-zero, all-differ}
 use Rattle.parameters.specs.Lent.{lent, codeword}
-use Rattle.parameters.specs.Parameters.{limits, rowLengths, rowWords}
-use Rattle.parameters.specs.ParameterLaws.{judge-number, within, row-lengths, lent-coding}
+use Rattle.parameters.specs.Parameters.{inLimits, rowLengths, Sized}
+use Rattle.parameters.specs.ParameterLaws.{judge-number, row-lengths, row-short, row-passed, lent-coding}
 use Rattle.undo.specs.Steps.{DecodeInput}
 use Rattle.decode.specs.Decoding.{decodeLengths, judgeDecoding, Settled, message, none, Decoded, refusal, settled}
+
+-- where the lengths are right, each word has an index
+pub decode-sized : (d c : ℕ) (g t t' b : List ℕ) (m k : ℕ) {l : Bool} → l ≡ (inLimits d c && decodeLengths d c (length g) (length t) (length t') (length b) m k) → Sized l g t t' b [] [] [] []
+unfolding decodeLengths
+decode-sized d c g t t' b m k e f =
+    let a = and-both (inLimits d c) _ (sym e ∙ f) in
+    let i = and-both (depthOk d) (rateOk c) (a .0) in
+    let n = and-both (rowLengths d c (length g) (length t) (length t')) _ (a .1) in
+    let s = eqb-true (length b) (blockSize c d) (and-both (eqb (length b) (blockSize c d)) _ (n .1) .0) in
+    let most = product-most c (2 ^ d) (rate-most c (i .1)) (power-most d (depth-most d (i .0))) in
+    row-short d c g t t' b [] [] [] [] (a .0) (n .0) (omega (arith, s, most)) (omega arith) (omega arith) (omega arith) (omega arith)
 
 module _ (𝓕 : PrimeField) where
   infixr 71 _⊛_
@@ -41,36 +53,32 @@ module _ (𝓕 : PrimeField) where
   decoding-most : (d c : ℕ) (g t t' b : List ℕ) (m k : ℕ) (n : Numbers) → judgeDecoding 𝓕 d c g t t' b m k ≡ refused n → n .0 ≤ 6
   unfolding judgeDecoding
   decoding-most d c g t t' b m k n =
-      judge-number (λ n. n ≤ 6) (λ k lo hi. hi) d c g t t' (decodeLengths d c (length g) (length t) (length t') (length b) m k) (rowWords 𝓕 g t t' && allBelow 𝓕 b)
+      judge-number 𝓕 (λ n. n ≤ 6) (λ k lo hi. hi) d c g t t' (decodeLengths d c (length g) (length t) (length t') (length b) m k) ((Block, b) ∷ [])
 
   -- no refusal from 1 to 6 is due
   pub decodes : (d c : ℕ) (g t t' b : List ℕ) (m k : ℕ) → judgeDecoding 𝓕 d c g t t' b m k ≡ done tt → DecodeInput 𝓕 d g t t' b k × (m ≡ 2 ^ d)
   unfolding judgeDecoding decodeLengths
   decodes d c g t t' b m k e =
-      let o = both (limits d c) e in
-      let w = within d c (sym (o .0)) in
-      let s = require-done (decodeLengths d c (length g) (length t) (length t') (length b) m k) 3 (o .1) in
-      let l = and-both (rowLengths d c (length g) (length t) (length t')) _ (s .0) in
+      let p = row-passed 𝓕 d c g t t' (decodeLengths d c (length g) (length t) (length t') (length b) m k) ((Block, b) ∷ []) e in
+      let l = and-both (rowLengths d c (length g) (length t) (length t')) _ (p .lengths) in
       let l₂ = and-both (eqb (length b) (blockSize c d)) _ (l .1) in
       let l₃ = and-both (eqb m (2 ^ d)) _ (l₂ .1) in
       let r = row-lengths d c (length g) (length t) (length t') (l .0) in
-      let u = require-done (rowWords 𝓕 g t t' && allBelow 𝓕 b) 4 (s .1) in
-      let v = and-both (rowWords 𝓕 g t t') _ (u .0) in
-      let x = require-done (noneZero g) 5 (u .1) in
-      let lo : 2 ≤ length g = rw (r .row) (rate-least c (w .1)) in
+      let x = demand-done (noneZero g) _ (p .row) in
+      let lo : 2 ≤ length g = rw (r .row) (rate-least c (p .rate)) in
       let same : (n : ℕ) → n ≡ blockSize c d → n ≡ blockSize (length g) d = λ n q. q ∙ ap (λ a. blockSize a d) (sym (r .row)) in
       let z : getD g 0 0 ≡ 0 → ⊥ = none-zero g (x .0) 0 (omega arith) in (
         record {
-          coding = lent-coding 𝓕 d c g t t' (l .0) (v .0) (u .1);
-          depth = leb-true d maxDepth (w .0);
+          coding = lent-coding 𝓕 d c g t t' (l .0) (p .words) (p .row);
+          depth = leb-true d maxDepth (p .depth);
           narrow = lo;
-          wide = rw (r .row) (rate-most c (w .1));
+          wide = rw (r .row) (rate-most c (p .rate));
           first = r .first ∙ ap (λ a. diagonalsSize a d) (sym (r .row));
           second = r .second ∙ ap (λ a. diagonalsSize a d) (sym (r .row));
           unit = omega arith;
-          apart = λ n h. all-differ t t' (held (allDiffer t t') 6 (x .1)) n h (omega (arith, r .first, r .second));
+          apart = λ n h. all-differ t t' (demand-held (allDiffer t t') _ (x .1)) n h (omega (arith, r .first, r .second));
           size = same (length b) (eqb-true _ _ (l₂ .0));
-          block = all-below 𝓕 b (v .1);
+          block = all-below 𝓕 b (demand-done (allBelow 𝓕 b) _ (p .others) .0);
           work = same k (eqb-true _ _ (l₃ .1));
         },
         eqb-true _ _ (l₃ .0),

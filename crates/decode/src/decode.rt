@@ -143,7 +143,18 @@ fn judge(
     );
     let row = parameters::scan_row(lengths, g, t, t2, field);
     let words = parameters::all_words_ok(row.words, block, field);
-    parameters::judge(depth, rate, g, lengths, words, row.apart)
+    parameters::judge_block(
+        depth,
+        rate,
+        g,
+        t,
+        t2,
+        block,
+        lengths,
+        words,
+        row.apart,
+        field,
+    )
 }
 
 pub fn decode(

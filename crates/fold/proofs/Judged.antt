@@ -1,26 +1,28 @@
 -- From the job's tests to the outcome that is due, and from an outcome without refusal to what holds of the input. Assumes nothing.
-use mathlib.Core.Path.{_≡_, refl, sym, ap, _∙_}
+use mathlib.Core.Path.{_≡_, refl, sym, ap, ap₂, _∙_}
 use mathlib.Core.Bool.{Bool, true, false, not, _&&_}
-use mathlib.Core.List.{List}
+use mathlib.Core.List.{List, [], _∷_}
 use Prim.Native.Nat.{ℕ, suc, _+_, _*_, _-_, _^_, _<_, _≤_}
 use native.Mathlib.Nat.{mul-one}
 use native.Mathlib.Omega.{arith}
 use lib.Dec.{leb, ltb, eqb}
 use lib.ListN.{length}
-use borrow.Author.Tests.{leb-true, ltb-true, eqb-true}
+use borrow.Author.Tests.{leb-true, eqb-true}
 use Rattle.algebra.specs.Words.{PrimeField}
 use Rattle.algebra.specs.Flags.{passes}
-use Rattle.algebra.specs.Tests.{and-both}
+use Rattle.algebra.specs.Tests.{all, and-both}
 use Rattle.algebra.specs.WordLists.{Low}
 use Rattle.foldable.specs.Encode.{double}
 use Rattle.job.specs.Limits.{maxDepth, maxRate, rateOk, blockSize}
-use Rattle.job.specs.LimitLaws.{rate-most}
-use Rattle.job.specs.Outcome.{Outcome, done, require, _⨾_}
-use Rattle.job.specs.OutcomeLaws.{require-done, held}
+use Rattle.job.specs.LimitLaws.{rate-most, power-most, product-most}
+use Rattle.job.specs.Outcome.{unplaced, Outcome, refused, done, unless, _⨾_}
+use Rattle.job.specs.OutcomeLaws.{stop-within, pass, pass-demand, require-done, demand-done, demand-held, both}
 use Rattle.words.specs.Scans.{allBelow, allDiffer}
 use Rattle.words.specs.ScanLaws.{all-below, all-differ}
+use Rattle.places.specs.Inputs.{inOrder, judgeWords, noEqual, Short}
+use Rattle.places.specs.FlagLaws.{short-without-row, words-flagged, equal-flagged}
 use Rattle.inversion.specs.Inversion.{Diagonals}
-use Rattle.fold.specs.Job.{levelOk, foldLimits, lengthsOk, wordsOk, judgeFolding}
+use Rattle.fold.specs.Job.{levelOk, foldLimits, lengthsOk, foldInputs, judgeFolding}
 
 pub level-bounds : (level : ℕ) → levelOk level ≡ true → (1 ≤ level) × (level ≤ maxDepth)
 unfolding levelOk
@@ -56,6 +58,18 @@ lengths level rate t t2 block out e =
     let c = and-both (eqb block (blockSize rate level)) _ (b .1) in
     record { first = eqb-true t n (a .0); second = eqb-true t2 n (b .0); whole = eqb-true block _ (c .0); result = eqb-true out n (c .1) }
 
+-- where the lengths are right, each word has an index
+pub short : (level rate : ℕ) (t t2 block : List ℕ) (a out : ℕ) → (foldLimits level rate && lengthsOk level rate (length t) (length t2) (length block) out) ≡ true
+    → Short [] t t2 block [] [] (a ∷ []) []
+short level rate t t2 block a out e =
+    let i = and-both (foldLimits level rate) _ e in
+    let j = and-both (levelOk level) (rateOk rate) (i .0) in
+    let most = level-bounds level (j .0) .1 in
+    let below = product-most rate (2 ^ (level - 1)) (rate-most rate (j .1)) (power-most (level - 1) (omega (arith, most))) in
+    let whole = product-most rate (2 ^ level) (rate-most rate (j .1)) (power-most level most) in
+    let l = lengths level rate _ _ _ _ (i .1) in
+    short-without-row t t2 block [] (a ∷ []) (omega (arith, l .first, below)) (omega (arith, l .second, below)) (omega (arith, l .whole, whole)) (omega arith) (omega arith)
+
 -- a block has twice the words of the block below it
 twice : (rate level : ℕ) → 1 ≤ level → blockSize rate level ≡ blockSize rate (level - 1) + blockSize rate (level - 1)
 twice rate level h = let up : level ≡ suc (level - 1) = omega arith in ap (λ i. rate * 2 ^ i) up ∙ double rate (level - 1)
@@ -64,46 +78,38 @@ module _ (𝓕 : PrimeField) where
   open PrimeField 𝓕 using (modulus as P)
 
   module _ (level rate : ℕ) (t t2 block : List ℕ) (a out : ℕ) where
-    abbrev A : Bool
-    A = levelOk level
-
-    abbrev B : Bool
-    B = rateOk rate
-
     abbrev L : Bool
     L = lengthsOk level rate (length t) (length t2) (length block) out
 
-    abbrev D : Bool
-    D = allDiffer t t2
+    pub lengths-due : levelOk level ≡ true → rateOk rate ≡ true → (foldLimits level rate && lengthsOk level rate (length t) (length t2) (length block) out) ≡ false
+        → refused (unplaced 3) ≡ judgeFolding 𝓕 level rate t t2 block a out
+    unfolding judgeFolding
+    lengths-due e f g = pass 1 e (pass 2 f (stop-within (foldLimits level rate) L _ (ap₂ _&&_ e f) g))
 
-    -- the chain as it is judged, where words are only read if the lengths are right
-    pub judged : {upper fair lengths low words apart : Bool} {six four three two r : Outcome (Unit {0})}
-        → upper ≡ levelOk level → fair ≡ rateOk rate → lengths ≡ (foldLimits level rate && lengthsOk level rate (length t) (length t2) (length block) out)
+    -- an input that is not lent is passed over
+    lent-only : judgeWords 𝓕 (inOrder [] t t2 block [] [] (a ∷ []) []) ≡ judgeWords 𝓕 (foldInputs t t2 block a)
+    unfolding all
+    lent-only = refl
+
+    -- 4 and 6 by their flags, which are only set where nothing is due
+    pub places-due : (lengths low : Bool) {words apart : Bool} {o : Outcome (Unit {0})}
+        → (foldLimits level rate && lengthsOk level rate (length t) (length t2) (length block) out) ≡ true
         → low ≡ (lengths && (allBelow 𝓕 t && allBelow 𝓕 t2)) → apart ≡ (lengths && allDiffer t t2) → words ≡ (low && (allBelow 𝓕 block && ltb a P))
-        → six ≡ require apart 6 ⨾ done tt → four ≡ require words 4 ⨾ six → three ≡ require lengths 3 ⨾ four → two ≡ require fair 2 ⨾ three → r ≡ require upper 1 ⨾ two
-        → r ≡ judgeFolding 𝓕 level rate t t2 block a out
-    unfolding judgeFolding wordsOk
-    judged {lengths = lengths} {words = words} e f g h i w p q r s u =
-        let all : words ≡ ((lengths && (allBelow 𝓕 t && allBelow 𝓕 t2)) && (allBelow 𝓕 block && ltb a P)) = w ∙ ap (λ b. b && (allBelow 𝓕 block && ltb a P)) h in
-        u ∙ (λ k. require (e k) 1 ⨾ s k) ∙ (λ k. require A 1 ⨾ require (f k) 2 ⨾ r k)
-        ∙ (λ k. require A 1 ⨾ require B 2 ⨾ require lengths 3 ⨾ q k)
-        ∙ (λ k. require A 1 ⨾ require B 2 ⨾ require lengths 3 ⨾ require (all k) 4 ⨾ p k)
-        ∙ (λ k. require A 1 ⨾ require B 2 ⨾ require lengths 3 ⨾ require ((lengths && (allBelow 𝓕 t && allBelow 𝓕 t2)) && (allBelow 𝓕 block && ltb a P)) 4 ⨾ require (i k) 6 ⨾ done tt)
-        ∙ (λ k. require A 1 ⨾ require B 2 ⨾ require (g k) 3 ⨾ require ((g k && (allBelow 𝓕 t && allBelow 𝓕 t2)) && (allBelow 𝓕 block && ltb a P)) 4 ⨾ require (g k && D) 6 ⨾ done tt)
-        ∙ by A B L (allBelow 𝓕 t) (allBelow 𝓕 t2) (allBelow 𝓕 block) (ltb a P) D
+        → o ≡ unless words (judgeWords 𝓕 (inOrder [] t t2 block [] [] (a ∷ []) [])) ⨾ unless apart (noEqual t t2)
+        → o ≡ judgeFolding 𝓕 level rate t t2 block a out
+    unfolding judgeFolding all
+    places-due lengths low {words} l e f g h =
+        let i = and-both (foldLimits level rate) L l in
+        let j = and-both (levelOk level) (rateOk rate) (i .0) in
+        pass 1 (j .0) (pass 2 (j .1) (pass 3 (i .1)
+        (h ∙ ap₂ (λ p q. p ⨾ q) (words-flagged 𝓕 words (inOrder [] t t2 block [] [] (a ∷ []) []) (foldInputs t t2 block a) lent-only words-pass) (equal-flagged lengths t t2 f))))
       where
-        by : (a b l x y z v d : Bool)
-            → require a 1 ⨾ require b 2 ⨾ require ((a && b) && l) 3 ⨾ require ((((a && b) && l) && (x && y)) && (z && v)) 4 ⨾ require (((a && b) && l) && d) 6 ⨾ done tt
-            ≡ require a 1 ⨾ require b 2 ⨾ require l 3 ⨾ require ((x && (y && z)) && v) 4 ⨾ require d 6
-        by false b l x y z v d = refl
-        by true false l x y z v d = refl
-        by true true false x y z v d = refl
-        by true true true false y z v d = refl
-        by true true true true false z v d = refl
-        by true true true true true false v d = refl
-        by true true true true true true false d = refl
-        by true true true true true true true false = refl
-        by true true true true true true true true = refl
+        words-pass : words ≡ true → judgeWords 𝓕 (foldInputs t t2 block a) ≡ done tt
+        words-pass q =
+            let v = and-both low _ (sym g ∙ q) in
+            let w = and-both (allBelow 𝓕 t) _ (and-both lengths _ (sym e ∙ v .0) .1) in
+            let x = and-both (allBelow 𝓕 block) _ (v .1) in
+            sym (pass-demand _ (w .0) (pass-demand _ (w .1) (pass-demand _ (x .0) (pass-demand _ (ap (λ b. b && true) (x .1)) refl))))
 
     -- what holds where no refusal is due
     pub record NoRefusalDue : Type 0 where
@@ -114,17 +120,18 @@ module _ (𝓕 : PrimeField) where
       pub size : out ≡ blockSize rate (level - 1)
 
     pub no-refusal-due : judgeFolding 𝓕 level rate t t2 block a out ≡ done tt → NoRefusalDue
-    unfolding judgeFolding wordsOk
+    unfolding judgeFolding
     no-refusal-due e =
         let level-passes = require-done (levelOk level) 1 e in
         let rate-passes = require-done (rateOk rate) 2 (level-passes .1) in
-        let lengths-pass = require-done (lengthsOk level rate (length t) (length t2) (length block) out) 3 (rate-passes .1) in
-        let words-pass = require-done (wordsOk 𝓕 t t2 block a) 4 (lengths-pass .1) in
-        let differ = held (allDiffer t t2) 6 (words-pass .1) in
+        let lengths-pass = require-done L 3 (rate-passes .1) in
+        let words-pass = both (judgeWords 𝓕 (foldInputs t t2 block a)) (lengths-pass .1) in
+        let first = demand-done (allBelow 𝓕 t) _ (words-pass .0) in
+        let second = demand-done (allBelow 𝓕 t2) _ (first .1) in
+        let third = demand-done (allBelow 𝓕 block) _ (second .1) in
+        let one = demand-done (allBelow 𝓕 (a ∷ [])) _ (third .1) in
+        let differ = demand-held (allDiffer t t2) _ (words-pass .1) in
         let l = lengths level rate _ _ _ _ (lengths-pass .0) in
-        let words = and-both (allBelow 𝓕 t && (allBelow 𝓕 t2 && allBelow 𝓕 block)) _ (words-pass .0) in
-        let first = and-both (allBelow 𝓕 t) _ (words .0) in
-        let second = and-both (allBelow 𝓕 t2) _ (first .1) in
         let n = l .result in
         record {
           diagonals = record {
@@ -136,7 +143,7 @@ module _ (𝓕 : PrimeField) where
             differ = λ k h. all-differ t t2 differ (k * 1) (omega (arith, l .first, mul-one k)) (omega (arith, l .second, mul-one k));
           };
           whole = l .whole ∙ twice rate level (level-bounds level (level-passes .0) .0) ∙ ap (λ m. m + m) (sym n);
-          low = all-below 𝓕 block (second .1);
-          challenge = ltb-true a P (words .1);
+          low = all-below 𝓕 block (third .0);
+          challenge = all-below 𝓕 (a ∷ []) (one .0) .low 0 (omega arith);
           size = n;
         }

@@ -1,9 +1,9 @@
 -- The job of folding a block by one level: its refusals, its answer and what it writes, for every input. Definitions only. Assumes nothing.
 use mathlib.Core.Path.{_≡_}
 use mathlib.Core.Bool.{Bool, _&&_}
-use mathlib.Core.List.{List}
+use mathlib.Core.List.{List, [], _∷_}
 use Prim.Native.Nat.{ℕ, _-_}
-use lib.Dec.{leb, ltb, eqb}
+use lib.Dec.{leb, eqb}
 use lib.ListN.{length}
 use Rattle.algebra.specs.Words.{Words, PrimeField}
 use Rattle.algebra.specs.WordLists.{elements, toWords}
@@ -11,7 +11,8 @@ use Rattle.foldable.specs.Code.{foldAlong}
 use Rattle.job.specs.Limits.{maxDepth, rateOk, blockSize}
 use Rattle.job.specs.Outcome.{Outcome, require, _⨾_, kept, outcome}
 use Rattle.job.specs.declared.Answer.{Answer}
-use Rattle.words.specs.Scans.{allBelow, allDiffer}
+use Rattle.job.specs.declared.Input.the-variants.{T, T2, Block, R}
+use Rattle.places.specs.Inputs.{Lent, judgeWords, noEqual}
 
 -- the upper level: at least 1
 unfoldable pub levelOk : ℕ → Bool
@@ -29,19 +30,20 @@ lengthsOk level rate t t2 block out =
     && (eqb block (blockSize rate level)
     && eqb out (blockSize rate (level - 1))))
 
-module _ (𝓕 : PrimeField) where
-  open PrimeField 𝓕 using (modulus as P, field as F, words as W)
-  open Words W using (el)
+-- what is lent, in its order: a challenge counts as r, of one word
+abbrev pub foldInputs : List ℕ → List ℕ → List ℕ → ℕ → List Lent
+foldInputs t t2 block a = (T, t) ∷ (T2, t2) ∷ (Block, block) ∷ (R, a ∷ []) ∷ []
 
-  unfoldable pub wordsOk : List ℕ → List ℕ → List ℕ → ℕ → Bool
-  wordsOk t t2 block a = (allBelow 𝓕 t && (allBelow 𝓕 t2 && allBelow 𝓕 block)) && ltb a P
+module _ (𝓕 : PrimeField) where
+  open PrimeField 𝓕 using (field as F, words as W)
+  open Words W using (el)
 
   -- the outcome that is due
   unfoldable pub judgeFolding : ℕ → ℕ → List ℕ → List ℕ → List ℕ → ℕ → ℕ → Outcome (Unit {0})
   judgeFolding level rate t t2 block a out =
       require (levelOk level) 1 ⨾ require (rateOk rate) 2
       ⨾ require (lengthsOk level rate (length t) (length t2) (length block) out) 3
-      ⨾ require (wordsOk t t2 block a) 4 ⨾ require (allDiffer t t2) 6
+      ⨾ judgeWords 𝓕 (foldInputs t t2 block a) ⨾ noEqual t t2
 
   -- the words of the fold by a, for diagonals and a result of n words
   abbrev pub foldWords : ℕ → List ℕ → List ℕ → List ℕ → ℕ → List ℕ

@@ -1,19 +1,22 @@
 // Folding a block by one level.
 ghost use mathlib.Core.Path.{_≡_};
 ghost use mathlib.Core.Bool.{_&&_};
+ghost use mathlib.Core.List.{[], _∷_};
 ghost use Prim.Native.Nat.{_+_};
 ghost use lib.Dec.{ltb};
 ghost use lib.ListN.{length};
 ghost use Rattle.algebra.specs.Words.{𝔽₁};
 ghost use Rattle.algebra.specs.WordLists.{Low as LowWords};
-ghost use Rattle.job.specs.Outcome.{outcome};
+ghost use Rattle.job.specs.Outcome.{outcome, unless, _⨾_};
 ghost use Rattle.residue.specs.Elements.{P, Low};
 ghost use Rattle.residue.specs.Chosen.{chosen};
 ghost use Rattle.words.specs.Scans.{allBelow, allDiffer};
+ghost use Rattle.places.specs.Inputs.{inOrder, judgeWords, noEqual, Short};
 ghost use Rattle.inversion.specs.Inversion.{Diagonals};
 ghost use Rattle.fold.specs.Job.{levelOk, foldLimits, lengthsOk, judgeFolding, foldWords, Folded};
 use job::Answer;
 use job::Refusal;
+use places::inputs;
 use residue::Field;
 use residue::Residue;
 use words::scan;
@@ -87,6 +90,28 @@ fn scan_diagonals(lengths: bool, t: &[u32], t2: &[u32], field: Field) -> PairSca
     scan::scan_pair(t, t2, field)
 }
 
+// 4, then 6. Only where a flag is not set a place is looked for. A challenge counts as r, of one word.
+fn judge_places(
+    t: &[u32],
+    t2: &[u32],
+    block: &[u32],
+    challenge: u32,
+    words: bool,
+    apart: bool,
+    field: Field,
+) -> Answer
+    requires { ⌜ Short [] (now t) (now t2) (now block) [] [] (challenge ∷ []) [] ⌝ }
+    ensures { λ r. ⌜ outcome r ≡ unless words (judgeWords (chosen field) (inOrder [] (now (t .entry)) (now (t2 .entry)) (now (block .entry)) [] [] (challenge ∷ []) [])) ⨾ unless apart (noEqual (now (t .entry)) (now (t2 .entry))) ⌝ }
+{
+    let none = &t[..0];
+    let one = [challenge; 1];
+    let four = inputs::judge_without_row(words, t, t2, block, none, &one, field);
+    if let Answer::Refused(n) = four {
+        return Answer::Refused(n);
+    }
+    inputs::judge_diagonals(apart, t, t2)
+}
+
 // The first refusal that is due. Nothing is read where the lengths are not right.
 fn judge(
     level: u32,
@@ -100,17 +125,19 @@ fn judge(
 ) -> Answer
     ensures { λ r. ⌜ outcome r ≡ judgeFolding (chosen field) level rate (now (t .entry)) (now (t2 .entry)) (now (block .entry)) challenge out ⌝ }
 {
-    let upper = level_ok(level);
-    let fair = job::rate_ok(rate);
     let lengths = lengths_ok(level, rate, t.len(), t2.len(), block.len(), out);
     let diagonals = scan_diagonals(lengths, t, t2, field);
     let words = words_ok(diagonals.below, block, challenge, field);
-    let apart = diagonals.apart;
-    let six = job::require(apart, Refusal::Diagonals, Answer::Done);
-    let four = job::require(words, Refusal::Word, six);
-    let three = job::require(lengths, Refusal::Length, four);
-    let two = job::require(fair, Refusal::Rate, three);
-    job::require(upper, Refusal::Depth, two)
+    if !level_ok(level) {
+        return Answer::Refused(Refusal::Depth);
+    }
+    if !job::rate_ok(rate) {
+        return Answer::Refused(Refusal::Rate);
+    }
+    if !lengths {
+        return Answer::Refused(Refusal::Length);
+    }
+    judge_places(t, t2, block, challenge, words, diagonals.apart, field)
 }
 
 // The fold, of what is judged already.

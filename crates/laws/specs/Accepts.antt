@@ -32,15 +32,15 @@ use Rattle.basefold.specs.Equations.{placeAt, claim, Equations}
 use Rattle.basefold.specs.Honest.{Queries}
 use Rattle.basefold.specs.Accepts.{none-fails-exactly}
 use Rattle.job.specs.Outcome.{Numbers, Outcome, refused, done, _⨾_}
-use Rattle.job.specs.OutcomeLaws.{require-done, both, after-number}
+use Rattle.job.specs.OutcomeLaws.{both, after-number}
 use Rattle.job.specs.Limits.{blockSize}
 use Rattle.parameters.specs.Lent.{lent, diagonal}
-use Rattle.parameters.specs.Parameters.{limits, rowLengths, judgeRow}
-use Rattle.parameters.specs.ParameterLaws.{row-lengths, judge-number}
+use Rattle.parameters.specs.Parameters.{rowLengths}
+use Rattle.parameters.specs.ParameterLaws.{row-lengths, row-passed, judge-number}
 use Rattle.verdict.specs.Verdicts.{checkNumbers, numbersOf}
 use Rattle.queries.specs.Queries.{queriesOk}
 use Rattle.queries.specs.QueryLaws.{queries-legal, queries-number}
-use Rattle.verify.specs.Verifying.{openedLengths, openedWords, judgeVerifying, verification}
+use Rattle.verify.specs.Verifying.{openedLengths, claimInputs, judgeOpened, judgeVerifying, verification}
 use Rattle.laws.specs.Openings.{legal-queries}
 use Rattle.laws.specs.Equations.{sentElement, finalElement, blockElement, claimed, Accepts}
 
@@ -91,23 +91,19 @@ module _ (𝓕 : PrimeField) where
     refusals : (n : Numbers) → judged ≡ refused n → Number (n .0)
     unfolding judgeVerifying
     refusals n =
-        after-number Number (judgeRow d c g t t' lengths words) (judge-number Number (λ k lo hi. (lo, omega arith)) d c g t t' lengths words)
+        after-number Number (judgeOpened 𝓕 d c g t t' w z y r o) (judge-number 𝓕 Number (λ k lo hi. (lo, omega arith)) d c g t t' lengths (claimInputs w z y r o))
         (queries-number Number (omega arith, omega arith) (omega arith, omega arith) d c us)
       where
         lengths : Bool
         lengths = openedLengths d c (length g) (length t) (length t') (length w) (length z) (length r) (length o)
 
-        words : Bool
-        words = openedWords 𝓕 g t t' w z y r o
-
     -- what the equations need of the lengths and queries
     known : judged ≡ done tt → (length g ≡ c) × (length r ≡ d) × (length o ≡ openingSize c 0 d) × (queriesOk d c us ≡ true)
     unfolding judgeVerifying openedLengths
     known e =
-        let j = both (judgeRow d c g t t' (openedLengths d c (length g) (length t) (length t') (length w) (length z) (length r) (length o)) (openedWords 𝓕 g t t' w z y r o)) e in
-        let a = both (limits d c) (j .0) in
-        let b = require-done (openedLengths d c (length g) (length t) (length t') (length w) (length z) (length r) (length o)) 3 (a .1) in
-        let l = and-both (rowLengths d c (length g) (length t) (length t')) _ (b .0) in
+        let j = both (judgeOpened 𝓕 d c g t t' w z y r o) e in
+        let p = row-passed 𝓕 d c g t t' (openedLengths d c (length g) (length t) (length t') (length w) (length z) (length r) (length o)) (claimInputs w z y r o) (j .0) in
+        let l = and-both (rowLengths d c (length g) (length t) (length t')) _ (p .lengths) in
         let l₂ = and-both (eqb (length w) (blockSize c d)) _ (l .1) in
         let l₃ = and-both (eqb (length z) d) _ (l₂ .1) in
         let l₄ = and-both (eqb (length r) d) _ (l₃ .1) in

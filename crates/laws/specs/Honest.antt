@@ -3,7 +3,7 @@
 -- Assumes nothing.
 use mathlib.Core.Path.{_≡_, refl, sym, ap, ap₂, _∙_}
 use mathlib.Core.Bool.{true, _&&_}
-use mathlib.Core.List.{List}
+use mathlib.Core.List.{List, [], _∷_}
 use mathlib.Core.Option.{Option}
 use Prim.Native.Nat.{ℕ, _^_}
 use native.Mathlib.Omega.{arith}
@@ -14,19 +14,21 @@ use Rattle.algebra.specs.Words.{PrimeField}
 use Rattle.algebra.specs.Tests.{and-both}
 use Rattle.algebra.specs.WordLists.{Low}
 use Rattle.basefold.specs.Checks.{Check}
+use Rattle.job.specs.declared.Input.the-variants.{Block, Z, R}
 use Rattle.job.specs.declared.Refusal.{Refusal}
 use Rattle.job.specs.declared.Answer.the-variants.{Done, Refused}
 use Rattle.job.specs.declared.Answer.{Answer}
 use Rattle.job.specs.Outcome.{Numbers, Outcome, refused, done, due, outcome, kept, _⨾_}
-use Rattle.job.specs.OutcomeLaws.{require-done, both, same-refusal}
+use Rattle.job.specs.OutcomeLaws.{demand-done, same-refusal}
 use Rattle.job.specs.Limits.{blockSize}
 use Rattle.words.specs.Scans.{allBelow}
 use Rattle.words.specs.ScanLaws.{all-below}
 use Rattle.parameters.specs.Lent.{codeword}
-use Rattle.parameters.specs.Parameters.{limits, rowLengths, rowWords, legalRow}
+use Rattle.parameters.specs.Parameters.{rowLengths}
+use Rattle.parameters.specs.ParameterLaws.{limits-done, RowPassed, row-passed}
 use Rattle.code.specs.Encoding.{encodeLengths, judgeEncoding, Encoded}
 use Rattle.rounds.specs.Opening.{openingWords}
-use Rattle.open.specs.Writing.{judgeWriting, writeLengths, inputLengths, bufferLengths, inputWords, valueWord, writtenOutcome as wrote, Wrote}
+use Rattle.open.specs.Writing.{judgeWriting, writeLengths, inputLengths, bufferLengths, valueWord, writtenOutcome as wrote, Wrote}
 use Rattle.open.specs.declared.Written.{Written}
 use Rattle.open.specs.declared.Written.the-variants.{Value, Refused as NotWritten}
 use Rattle.verdict.specs.Verdicts.{numbers, numbersOf}
@@ -90,34 +92,27 @@ module _ (𝓕 : PrimeField) where
         }
 
   module _ {d c : ℕ} {g t t' m z r us : List ℕ} {n o s : ℕ} (𝓘 : NothingRefused 𝓕 d c g t t' m z r us n o s) where
-    within : (limits d c ≡ done tt) × (encodeLengths d c (length g) (length t) (length t') (length m) n ≡ true)
-        × (rowWords 𝓕 g t t' && allBelow 𝓕 m ≡ true) × (legalRow g t t' ≡ done tt)
+    passed : RowPassed 𝓕 d c g t t' (encodeLengths d c (length g) (length t) (length t') (length m) n) ((Block, m) ∷ [])
     unfolding judgeEncoding
-    within =
-        let a = both (limits d c) (𝓘 .encodes) in
-        let b = require-done (encodeLengths d c (length g) (length t) (length t') (length m) n) 3 (a .1) in
-        let e = require-done (rowWords 𝓕 g t t' && allBelow 𝓕 m) 4 (b .1) in
-        (a .0, b .0, e .0, e .1)
+    passed = row-passed 𝓕 d c g t t' (encodeLengths d c (length g) (length t) (length t') (length m) n) ((Block, m) ∷ []) (𝓘 .encodes)
 
     sizes : (rowLengths d c (length g) (length t) (length t') ≡ true) × (length m ≡ 2 ^ d)
     unfolding encodeLengths
     sizes =
-        let l = and-both (rowLengths d c (length g) (length t) (length t')) (eqb (length m) (2 ^ d) && eqb n (blockSize c d)) (within .1) in
+        let l = and-both (rowLengths d c (length g) (length t) (length t')) (eqb (length m) (2 ^ d) && eqb n (blockSize c d)) (passed .lengths) in
         (l .0, eqb-true _ _ (and-both (eqb (length m) (2 ^ d)) (eqb n (blockSize c d)) (l .1) .0))
 
     lent-row : LegalRow 𝓕 d c g t t'
-    lent-row = record { within = within .0; lengths = sizes .0; words = and-both (rowWords 𝓕 g t t') (allBelow 𝓕 m) (within .2) .0; legal = within .3 }
+    lent-row = record { within = sym (limits-done d c (passed .depth) (passed .rate)); lengths = sizes .0; words = passed .words; legal = passed .row }
 
     asked : (length z ≡ d) × (length r ≡ d) × Low P z × Low P r
-    unfolding judgeWriting writeLengths inputLengths inputWords
+    unfolding judgeWriting writeLengths inputLengths
     asked =
-        let a = both (limits d c) (𝓘 .writes) in
-        let b = require-done (writeLengths d c (length g) (length t) (length t') (length m) (length z) (length r) o s) 3 (a .1) in
-        let e = require-done (rowWords 𝓕 g t t' && inputWords 𝓕 m z r) 4 (b .1) in
-        let i = and-both (inputLengths d (length m) (length z) (length r)) (bufferLengths d c o s) (and-both (rowLengths d c (length g) (length t) (length t')) _ (b .0) .1) in
+        let p = row-passed 𝓕 d c g t t' (writeLengths d c (length g) (length t) (length t') (length m) (length z) (length r) o s) ((Block, m) ∷ (Z, z) ∷ (R, r) ∷ []) (𝓘 .writes) in
+        let i = and-both (inputLengths d (length m) (length z) (length r)) (bufferLengths d c o s) (and-both (rowLengths d c (length g) (length t) (length t')) _ (p .lengths) .1) in
         let zr = and-both (eqb (length z) d) (eqb (length r) d) (and-both (eqb (length m) (2 ^ d)) _ (i .0) .1) in
-        let w = and-both (allBelow 𝓕 z) (allBelow 𝓕 r) (and-both (allBelow 𝓕 m) _ (and-both (rowWords 𝓕 g t t') (inputWords 𝓕 m z r) (e .0) .1) .1) in
-        (eqb-true _ _ (zr .0), eqb-true _ _ (zr .1), all-below 𝓕 z (w .0), all-below 𝓕 r (w .1))
+        let w = demand-done (allBelow 𝓕 z) _ (demand-done (allBelow 𝓕 m) _ (p .others) .1) in
+        (eqb-true _ _ (zr .0), eqb-true _ _ (zr .1), all-below 𝓕 z (w .0), all-below 𝓕 r (demand-done (allBelow 𝓕 r) _ (w .1) .0))
 
     honest : numbersOf (verification 𝓕 d c g t t' (codeword 𝓕 d g t t' m) z (valueWord 𝓕 m z) r us (openingWords 𝓕 g t t' m z r)) ≡ (0, 0, 0)
     honest = opening-accepted 𝓕 d c g t t' lent-row m z r us (sizes .1) (asked .0) (asked .1) (asked .2) (asked .3) (𝓘 .asks) (valueWord 𝓕 m z) refl

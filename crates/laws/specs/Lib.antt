@@ -6,6 +6,7 @@
 --     Openings                   opening-accepted, opening-fails
 --     Accepts                    accepts-exactly, rejects-exactly: when the verifier answers 0, and when it names a check
 --     Repeats                    repeats-exactly: when it refuses with 11
+--     Named                      reading-named to verifying-named: WHERE 4, 5 and 6 say that the first fault is
 --     Honest                     commit-accepted: committing, opening and verifying in turn answers 0
 --     Starred                    the numbers that are proved, as one table
 pub mod Calls
@@ -17,6 +18,7 @@ pub mod Openings
 pub mod Equations
 pub mod Accepts
 pub mod Repeats
+pub mod Named
 pub mod Commit
 pub mod Honest
 pub mod Starred

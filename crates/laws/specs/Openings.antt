@@ -9,11 +9,11 @@ use native.Mathlib.Nat.{one-mul, zero-add}
 use native.Mathlib.Omega.{arith}
 use lib.Dec.{leb, ltb}
 use lib.ListN.{length}
-use borrow.Author.Tests.{eq-eqb, eqb-true, lt-ltb, ltb-true}
+use borrow.Author.Tests.{eq-eqb, eqb-true, ltb-true}
 use Rattle.algebra.specs.Half.{two}
 use Rattle.algebra.specs.Tests.{all, and-both}
 use Rattle.algebra.specs.Words.{Words, PrimeField}
-use Rattle.algebra.specs.WordLists.{Low, low-words, elements, elements-words, length-elements, length-words}
+use Rattle.algebra.specs.WordLists.{Low, low-none, low-cons, low-words, elements, elements-words, length-elements, length-words}
 use Rattle.basefold.specs.Layout.{openingSize}
 use Rattle.basefold.specs.Checks.{Check, firstCheck, firstFailure, checks}
 use Rattle.basefold.specs.Written.{opening}
@@ -21,8 +21,10 @@ use Rattle.basefold.specs.Honest.{Queries, honest-accepted, honest-fails}
 use Rattle.foldable.specs.Code.{encode, dim, Legal}
 use Rattle.foldable.specs.Encode.{length-encode}
 use Rattle.job.specs.Outcome.{Numbers, done, _⨾_}
+use Rattle.job.specs.OutcomeLaws.{pass-demand}
 use Rattle.job.specs.Limits.{blockSize}
 use Rattle.words.specs.ScanLaws.{below-all}
+use Rattle.places.specs.Inputs.{judgeWords}
 use Rattle.parameters.specs.Lent.{lent, Coding, codeword}
 use Rattle.rounds.specs.Laws.{length-opening}
 use Rattle.rounds.specs.Opening.{openingWords}
@@ -30,9 +32,10 @@ use Rattle.open.specs.Writing.{valueWord}
 use Rattle.verdict.specs.Verdicts.{numbersOf}
 use Rattle.queries.specs.Queries.{maxQueries, queriesOk, judgeQueries}
 use Rattle.queries.specs.QueryLaws.{queries-legal}
-use Rattle.verify.specs.Verifying.{openedLengths, openedWords, judgeVerifying, verification}
+use Rattle.verify.specs.Verifying.{openedLengths, claimInputs, judgeVerifying, verification}
 use Rattle.laws.specs.Calls.{LegalRow}
 use Rattle.laws.specs.CallLaws.{coding-of, lengths-of}
+use Rattle.laws.specs.NotRefused.{row-judged}
 
 -- 20 with i = d, and 21 at depth 0
 abbrev pub failed : ℕ → Numbers
@@ -90,24 +93,26 @@ module _ (𝓕 : PrimeField) where
 
     -- nothing is refused
     fine : (y : ℕ) → y < P → judgeVerifying 𝓕 d c g t t' w z y r us o ≡ done tt
-    unfolding judgeVerifying openedLengths openedWords
-    fine y h =
-        rw (
-          𝓡 .within,
-          𝓡 .lengths,
-          eq-eqb (length w) (blockSize c d) length-w,
-          eq-eqb (length z) d lz,
-          eq-eqb (length r) d lr,
-          eq-eqb (length o) (openingSize c 0 d) length-o,
-          𝓡 .words,
-          below-all 𝓕 w (low-words 𝓕 _),
-          below-all 𝓕 z low-z,
-          lt-ltb y P h,
-          below-all 𝓕 r low-r,
-          below-all 𝓕 o (low-words 𝓕 _),
-          𝓡 .legal,
-          legal-us,
-        )
+    unfolding judgeVerifying openedLengths
+    fine y h = rw (row-judged 𝓕 𝓡 _ (claimInputs w z y r o) sizes words, legal-us)
+      where
+        sizes : openedLengths d c (length g) (length t) (length t') (length w) (length z) (length r) (length o) ≡ true
+        sizes =
+            rw (
+              𝓡 .lengths,
+              eq-eqb (length w) (blockSize c d) length-w,
+              eq-eqb (length z) d lz,
+              eq-eqb (length r) d lr,
+              eq-eqb (length o) (openingSize c 0 d) length-o,
+            )
+
+        words : judgeWords 𝓕 (claimInputs w z y r o) ≡ done tt
+        words =
+            sym
+            (pass-demand _ (below-all 𝓕 w (low-words 𝓕 _))
+            (pass-demand _ (below-all 𝓕 z low-z)
+            (pass-demand _ (below-all 𝓕 (y ∷ []) (low-cons h (low-none P)))
+            (pass-demand _ (below-all 𝓕 r low-r) (pass-demand _ (below-all 𝓕 o (low-words 𝓕 _)) refl)))))
 
     judged : (y : ℕ) → y < P → (v : Option Check)
         → firstFailure (checks F 0 (lent 𝓕 g t t') (encode F (lent 𝓕 g t t') (length (elements 𝓕 r)) (elements 𝓕 m)) (elements 𝓕 z) (el y) (elements 𝓕 r) us (opening F 0 (lent 𝓕 g t t') (elements 𝓕 m) (elements 𝓕 z) (elements 𝓕 r))) ≡ v

@@ -16,7 +16,7 @@ use Rattle.queries.specs.Distinct.{Repeated}
 use Rattle.queries.specs.Queries.{queriesOk, judgeQueries}
 use Rattle.queries.specs.QueryLaws.{eleven-exactly}
 use Rattle.verdict.specs.Verdicts.{numbersOf}
-use Rattle.verify.specs.Verifying.{openedLengths, openedWords, judgeOpened, judgeVerifying, verification}
+use Rattle.verify.specs.Verifying.{openedLengths, claimInputs, judgeOpened, judgeVerifying, verification}
 use Rattle.laws.specs.Accepts.{check-least}
 
 -- of two outcomes and what the checks find, 11 can only come from the second
@@ -37,4 +37,4 @@ module _ (𝓕 : PrimeField) (d c : ℕ) (g t t' w z : List ℕ) (y : ℕ) (r us
     where
       early : (n : Numbers) → judgeOpened 𝓕 d c g t t' w z y r o ≡ refused n → n .0 ≤ 6
       early n =
-          judge-number (λ k. k ≤ 6) (λ k lo hi. hi) d c g t t' (openedLengths d c (length g) (length t) (length t') (length w) (length z) (length r) (length o)) (openedWords 𝓕 g t t' w z y r o)
+          judge-number 𝓕 (λ k. k ≤ 6) (λ k lo hi. hi) d c g t t' (openedLengths d c (length g) (length t) (length t') (length w) (length z) (length r) (length o)) (claimInputs w z y r o)

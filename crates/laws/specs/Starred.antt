@@ -44,7 +44,7 @@ use Rattle.decode.specs.Decoding.{judgeDecoding, decodeLengths, Decoded, settle
 use Rattle.verdict.specs.Verdicts.{numbersOf}
 use Rattle.queries.specs.Distinct.{distinct}
 use Rattle.queries.specs.Queries.{queriesOk, judgeQueries}
-use Rattle.verify.specs.Verifying.{verification, judgeVerifying, openedLengths, openedWords}
+use Rattle.verify.specs.Verifying.{verification, judgeVerifying, openedLengths}
 use Rattle.laws.specs.Calls.{LegalRow, foldedLevel}
 use Rattle.laws.specs.Folds.{fold-law}
 use Rattle.rounds.specs.Opening.{openingWords}
@@ -256,7 +256,7 @@ first-spoilt =
     zero = res-path refl
 
 spoilt-0 : verdict 0 5 1 (0 ∷ []) (5 ∷ 0 ∷ 2147483628 ∷ 13 ∷ 13 ∷ 13 ∷ []) ≡ (23, 0, 0)
-unfolding verification judgeVerifying openedLengths openedWords judgeQueries queriesOk distinct rowLengths rowWords rateOk all all₂
+unfolding verification judgeVerifying openedLengths judgeQueries queriesOk distinct rowLengths rowWords rateOk all all₂
 spoilt-0 = ap (λ v. numbersOf (done v)) first-spoilt
 
 -- the claim

@@ -7,7 +7,7 @@ use native.Mathlib.Omega.{arith}
 use lib.Pow.{pow-mono, pow-pos}
 use Rattle.basefold.specs.Layout.{roundAt, finalAt, blockAt, openingSize}
 use Rattle.job.specs.Limits.{maxDepth, maxRate, blockSize, maxBlock}
-use Rattle.job.specs.LimitLaws.{power-most, product-most}
+use Rattle.job.specs.LimitLaws.{power-most, product-most, diagonals-most}
 
 -- h_(i+1) ends before v, and v stands within the opening
 pub round-within : (d i : ℕ) → i < d → roundAt d (suc i) + 3 ≤ finalAt d
@@ -15,6 +15,10 @@ round-within d i h = omega arith
 
 pub final-within : (c d : ℕ) → finalAt d < openingSize c 0 d
 final-within c d = omega arith
+
+-- the longest opening
+pub opening-most : (c d : ℕ) → c ≤ maxRate → d ≤ maxDepth → openingSize c 0 d ≤ 3 * maxDepth + 1 + maxBlock
+opening-most c d h k = omega (arith, diagonals-most c d h k)
 
 -- a block ends where the next one begins, and within the opening
 pub block-end : (c d i : ℕ) → i < d → blockAt c 0 d i + blockSize c i ≡ finalAt d + 1 + c * (2 ^ d - 2 ^ i)

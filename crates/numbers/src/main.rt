@@ -16,4 +16,8 @@ fn main() {
     numbers_openings::eq_is_0();
     numbers_openings::written();
     numbers_openings::places();
+    numbers_places::inputs();
+    numbers_places::pairs();
+    numbers_places::folds();
+    numbers_places::claims();
 }

@@ -15,7 +15,7 @@ fn meaning(r: Reading) {
             print::end();
         }
         Reading::Overlap(n) => print::line(b": overlap", n),
-        Reading::Refused(r) => print::line(b": refused", job::number(r)),
+        Reading::Refused(r) => print::refusal(b": refused", r),
     }
 }
 
@@ -104,7 +104,7 @@ pub fn transforms() {
 fn value(e: Evaluation) {
     match e {
         Evaluation::Value(v) => print::line(b" value", v),
-        Evaluation::Refused(r) => print::line(b" refused", job::number(r)),
+        Evaluation::Refused(r) => print::refusal(b" refused", r),
     }
 }
 

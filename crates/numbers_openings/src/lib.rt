@@ -2,14 +2,11 @@
 use tvarchula::answer::Reply;
 use tvarchula::opening;
 
-mod openings;
+pub mod openings;
 
-fn verdict(text: &[u8], v: Reply) {
+pub fn verdict(text: &[u8], v: Reply) {
     print::label(text);
-    print::number(v.number);
-    print::number(v.first);
-    print::number(v.second);
-    print::end();
+    print::places(v.number, v.first, v.second);
 }
 
 fn one_word(text: &[u8], y: u32, queries: &[u32]) {

@@ -1,7 +1,7 @@
 -- The job of writing an opening: its answer, its result and its work buffer, for every input. Assumes nothing.
 use mathlib.Core.Path.{_≡_}
 use mathlib.Core.Bool.{Bool, _&&_}
-use mathlib.Core.List.{List}
+use mathlib.Core.List.{List, [], _∷_}
 use Prim.Native.Nat.{ℕ, _*_, _^_}
 use lib.Dec.{eqb}
 use lib.ListN.{length, replicate}
@@ -9,11 +9,12 @@ use Rattle.algebra.specs.Field.{Field}
 use Rattle.algebra.specs.Words.{Words, PrimeField}
 use Rattle.algebra.specs.WordLists.{elements}
 use Rattle.basefold.specs.Layout.{openingSize}
+use Rattle.job.specs.declared.Input.the-variants.{Block, Z, R}
 use Rattle.job.specs.Outcome.{Outcome, refused, done, _⨾_, kept, due}
 use Rattle.multilinear.specs.Polynomial.{poly}
 use Rattle.residue.specs.declared.Residue.{Residue}
 use Rattle.words.specs.Scans.{allBelow}
-use Rattle.parameters.specs.Parameters.{rowLengths, rowWords, judgeRow}
+use Rattle.parameters.specs.Parameters.{rowLengths, judgeRow}
 use Rattle.rounds.specs.Opening.{openingWords}
 use Rattle.open.specs.declared.Written.{Written}
 use Rattle.open.specs.declared.Written.the-variants.{Value, Refused}
@@ -39,13 +40,14 @@ module _ (𝓕 : PrimeField) where
   open Field F using (ring as K)
   open Words W using (val as word)
 
+  -- of the words of message, point and challenges, as one flag
   unfoldable pub inputWords : List ℕ → List ℕ → List ℕ → Bool
   inputWords m z r = allBelow 𝓕 m && (allBelow 𝓕 z && allBelow 𝓕 r)
 
   -- the outcome, with an opening of o words and a work buffer of s
   unfoldable pub judgeWriting : ℕ → ℕ → List ℕ → List ℕ → List ℕ → List ℕ → List ℕ → List ℕ → ℕ → ℕ → Outcome (Unit {0})
   judgeWriting d c g t t' m z r o s =
-      judgeRow d c g t t' (writeLengths d c (length g) (length t) (length t') (length m) (length z) (length r) o s) (rowWords 𝓕 g t t' && inputWords m z r)
+      judgeRow 𝓕 d c g t t' (writeLengths d c (length g) (length t) (length t') (length m) (length z) (length r) o s) ((Block, m) ∷ (Z, z) ∷ (R, r) ∷ [])
 
   -- the word of f(z)
   abbrev pub valueWord : List ℕ → List ℕ → ℕ

@@ -99,5 +99,21 @@ pub fn judge(
     );
     let row = parameters::scan_row(lengths, g, t, t2, field);
     let words = words_ok(row.words, m, z, r, field);
-    parameters::judge(depth, rate, g, lengths, words, row.apart)
+    let none = &g[..0];
+    parameters::judge(
+        depth,
+        rate,
+        g,
+        t,
+        t2,
+        m,
+        z,
+        none,
+        r,
+        none,
+        lengths,
+        words,
+        row.apart,
+        field,
+    )
 }

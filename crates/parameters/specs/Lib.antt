@@ -3,7 +3,9 @@
 --     LentLaws         where the levels stand
 --     Parameters       judgeRow: THE REFUSALS 1 TO 6 of a job with a row, in their order
 --     ParameterLaws    what the tests say where they hold
+--     NamedLaws        RowNamed, row-named: WHICH PLACE 4, 5 and 6 name
 pub mod Lent
 pub mod LentLaws
 pub mod Parameters
 pub mod ParameterLaws
+pub mod NamedLaws

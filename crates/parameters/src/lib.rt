@@ -1,12 +1,17 @@
 // What jobs that are lent a base row and the diagonals of all levels judge of them.
 ghost use mathlib.Core.Path.{_≡_};
 ghost use mathlib.Core.Bool.{_&&_};
+ghost use mathlib.Core.List.{[]};
+ghost use Prim.Native.Nat.{_≤_};
+ghost use lib.ListN.{length};
 ghost use Rattle.residue.specs.Chosen.{chosen};
-ghost use Rattle.job.specs.Outcome.{outcome};
+ghost use Rattle.job.specs.Outcome.{outcome, unless, _⨾_};
 ghost use Rattle.words.specs.Scans.{allBelow, noneZero};
-ghost use Rattle.parameters.specs.Parameters.{inLimits, rowLengths, RowScanned, judgeFlags};
+ghost use Rattle.places.specs.Inputs.{maxWords, noZero, noEqual};
+ghost use Rattle.parameters.specs.Parameters.{inLimits, rowLengths, RowScanned, Sized, judgeFlags};
 use job::Answer;
 use job::Refusal;
+use places::inputs;
 use residue::Field;
 use words::scan;
 
@@ -71,26 +76,142 @@ pub fn all_words_ok(row: bool, m: &[u32], field: Field) -> bool
     scan::all_below(m, field)
 }
 
-fn row_ok(words: bool, g: &[u32]) -> bool
-    ensures { λ r. ⌜ r ≡ (words && noneZero (now (g .entry))) ⌝ }
+// 5, then 6.
+fn judge_legal(g: &[u32], t: &[u32], t2: &[u32], apart: bool) -> Answer
+    requires { ⌜ (length (now g) ≤ maxWords) × (length (now t) ≤ maxWords) ⌝ }
+    ensures { λ a. ⌜ outcome a ≡ noZero (now (g .entry)) ⨾ unless apart (noEqual (now (t .entry)) (now (t2 .entry))) ⌝ }
 {
-    if !words {
+    let five = inputs::judge_row(g);
+    if let Answer::Refused(n) = five {
+        return Answer::Refused(n);
+    }
+    inputs::judge_diagonals(apart, t, t2)
+}
+
+// Whether nothing is due, by the flags alone.
+fn nothing_due(depth: u32, rate: u32, g: &[u32], lengths: bool, words: bool, apart: bool) -> bool
+    ensures { λ r. ⌜ r ≡ (inLimits depth rate && (((lengths && words) && apart) && noneZero (now (g .entry)))) ⌝ }
+{
+    if !in_limits(depth, rate) {
+        return false;
+    }
+    if !(lengths & words & apart) {
         return false;
     }
     scan::none_zero(g)
 }
 
-// The refusals 1 to 6, by a job's own tests of all its lengths and all its words, and by whether the diagonals differ.
-pub fn judge(depth: u32, rate: u32, g: &[u32], lengths: bool, words: bool, apart: bool) -> Answer
-    ensures { λ r. ⌜ outcome r ≡ judgeFlags depth rate (now (g .entry)) lengths words apart ⌝ }
+// What is due, in its order; what a job is not lent is empty.
+fn first_due(
+    depth: u32,
+    rate: u32,
+    g: &[u32],
+    t: &[u32],
+    t2: &[u32],
+    block: &[u32],
+    z: &[u32],
+    y: &[u32],
+    r: &[u32],
+    opening: &[u32],
+    lengths: bool,
+    words: bool,
+    apart: bool,
+    field: Field,
+) -> Answer
+    requires { ⌜ Sized lengths (now g) (now t) (now t2) (now block) (now z) (now y) (now r) (now opening) ⌝ }
+    ensures { λ a. ⌜ outcome a ≡ judgeFlags (chosen field) depth rate (now (g .entry)) (now (t .entry)) (now (t2 .entry)) (now (block .entry)) (now (z .entry)) (now (y .entry)) (now (r .entry)) (now (opening .entry)) lengths words apart ⌝ }
 {
-    let shallow = job::depth_ok(depth);
-    let fair = job::rate_ok(rate);
-    let row = row_ok(words, g);
-    let six = job::require(apart, Refusal::Diagonals, Answer::Done);
-    let five = job::require(row, Refusal::BaseRow, six);
-    let four = job::require(words, Refusal::Word, five);
-    let three = job::require(lengths, Refusal::Length, four);
-    let two = job::require(fair, Refusal::Rate, three);
-    job::require(shallow, Refusal::Depth, two)
+    if !job::depth_ok(depth) {
+        return Answer::Refused(Refusal::Depth);
+    }
+    if !job::rate_ok(rate) {
+        return Answer::Refused(Refusal::Rate);
+    }
+    if !lengths {
+        return Answer::Refused(Refusal::Length);
+    }
+    let four = inputs::judge_words(words, g, t, t2, block, z, y, r, opening, field);
+    if let Answer::Refused(n) = four {
+        return Answer::Refused(n);
+    }
+    judge_legal(g, t, t2, apart)
+}
+
+// The refusals 1 to 6, by a job's own flags: of all its lengths, of all its words, and of the diagonals. A call that is not refused asks nothing else.
+pub fn judge(
+    depth: u32,
+    rate: u32,
+    g: &[u32],
+    t: &[u32],
+    t2: &[u32],
+    block: &[u32],
+    z: &[u32],
+    y: &[u32],
+    r: &[u32],
+    opening: &[u32],
+    lengths: bool,
+    words: bool,
+    apart: bool,
+    field: Field,
+) -> Answer
+    requires { ⌜ Sized lengths (now g) (now t) (now t2) (now block) (now z) (now y) (now r) (now opening) ⌝ }
+    ensures { λ a. ⌜ outcome a ≡ judgeFlags (chosen field) depth rate (now (g .entry)) (now (t .entry)) (now (t2 .entry)) (now (block .entry)) (now (z .entry)) (now (y .entry)) (now (r .entry)) (now (opening .entry)) lengths words apart ⌝ }
+{
+    if nothing_due(depth, rate, g, lengths, words, apart) {
+        return Answer::Done;
+    }
+    first_due(
+        depth,
+        rate,
+        g,
+        t,
+        t2,
+        block,
+        z,
+        y,
+        r,
+        opening,
+        lengths,
+        words,
+        apart,
+        field,
+    )
+}
+
+// The same for a job that is lent only a message or a block beside them.
+pub fn judge_block(
+    depth: u32,
+    rate: u32,
+    g: &[u32],
+    t: &[u32],
+    t2: &[u32],
+    block: &[u32],
+    lengths: bool,
+    words: bool,
+    apart: bool,
+    field: Field,
+) -> Answer
+    requires { ⌜ Sized lengths (now g) (now t) (now t2) (now block) [] [] [] [] ⌝ }
+    ensures { λ a. ⌜ outcome a ≡ judgeFlags (chosen field) depth rate (now (g .entry)) (now (t .entry)) (now (t2 .entry)) (now (block .entry)) [] [] [] [] lengths words apart ⌝ }
+{
+    if nothing_due(depth, rate, g, lengths, words, apart) {
+        return Answer::Done;
+    }
+    let none = &g[..0];
+    first_due(
+        depth,
+        rate,
+        g,
+        t,
+        t2,
+        block,
+        none,
+        none,
+        none,
+        none,
+        lengths,
+        words,
+        apart,
+        field,
+    )
 }

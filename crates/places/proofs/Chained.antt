@@ -1,43 +1,41 @@
--- A search that goes on in one input after another until something is found. Assumes nothing.
+-- A place that a search ends at, as an outcome; and inputs one after another. Assumes nothing.
 use mathlib.Core.Path.{_≡_, refl, ap, _∙_}
-use mathlib.Core.Bool.{Bool, true, false, cond}
+use mathlib.Core.Bool.{Bool, true, false}
 use mathlib.Core.List.{List, [], _∷_}
-use mathlib.Core.Option.{Option, none, some}
 use Prim.Native.Nat.{ℕ, _<_, _≤_}
 use native.Mathlib.Omega.{arith}
-use lib.Dec.{ltb}
-use lib.ListN.{length}
-use Rattle.places.specs.Places.{highPlace}
-use Rattle.places.specs.PlaceLaws.{place-first, place-none}
-use Rattle.places.specs.Inputs.{Input, under, highIn, orElse, firstWord}
+use Rattle.job.specs.Outcome.{Numbers, Outcome, refused, done, demand, _⨾_}
 
--- where nothing was found before, the word that is found in an input, or nothing
-module _ (bound : ℕ) (x : Input) {k : ℕ} (e : k ≡ highPlace bound (x .1)) where
-  pub found-here : k < length (x .1) → some (k, x .0) ≡ highIn bound x
-  found-here h = go (under bound x) refl
+-- a test that fails at a place below n, and one that passes, by where a search for the place ends
+module _ (b : Bool) (due : ℕ → Numbers) (at n k : ℕ) (e : k ≡ at) where
+  pub ended : (b ≡ true → at ≡ n) → k < n → refused (due k) ≡ demand b (due at)
+  ended h l = go b refl
     where
-      go : (b : Bool) → under bound x ≡ b → _≡_ {A = Option (ℕ × ℕ)} (some (k, x .0)) (cond b none (some (highPlace bound (x .1), x .0)))
-      go true q = absurd (omega (arith, h, e, place-none (λ w. ltb w bound) (x .1) q))
-      go false q = ap (λ i. some (i, x .0)) e
+      go : (c : Bool) → b ≡ c → refused (due k) ≡ demand c (due at)
+      go true q = absurd (omega (arith, l, e, h q))
+      go false q = ap (λ i. refused (due i)) e
 
-  pub found-not : length (x .1) ≤ k → none ≡ highIn bound x
-  found-not h = go (under bound x) refl
+  pub passed-all : (b ≡ false → at < n) → n ≤ k → done tt ≡ demand b (due at)
+  passed-all h l = go b refl
     where
-      go : (b : Bool) → under bound x ≡ b → _≡_ {A = Option (ℕ × ℕ)} none (cond b none (some (highPlace bound (x .1), x .0)))
+      go : (c : Bool) → b ≡ c → done tt ≡ demand c (due at)
       go true q = refl
-      go false q = absurd (omega (arith, h, e, place-first (λ w. ltb w bound) (x .1) q .within))
+      go false q = absurd (omega (arith, l, e, h q))
 
--- the inputs one after another, each after what was found before it
-abbrev onwards : ℕ → Option (ℕ × ℕ) → List Input → Option (ℕ × ℕ)
-onwards bound found [] = found
-onwards bound found (x ∷ xs) = onwards bound (orElse found (highIn bound x)) xs
+-- outcomes one after another, each after what was due before it
+abbrev onwards : (before : Outcome (Unit {0})) → List (Outcome (Unit {0})) → Outcome (Unit {0})
+onwards before [] = before
+onwards before (x ∷ xs) = onwards (before ⨾ x) xs
 
-pub onwards-first : (bound : ℕ) (found : Option (ℕ × ℕ)) (xs : List Input) → onwards bound found xs ≡ orElse found (firstWord bound xs)
-unfolding firstWord
-onwards-first bound none [] = refl
-onwards-first bound (some a) [] = refl
-onwards-first bound none (x ∷ xs) = onwards-first bound (highIn bound x) xs
-onwards-first bound (some a) (x ∷ xs) = onwards-first bound (some a) xs
+abbrev each : List (Outcome (Unit {0})) → Outcome (Unit {0})
+each [] = done tt
+each (x ∷ xs) = x ⨾ each xs
 
-pub step : {a before after : Option (ℕ × ℕ)} (x : Option (ℕ × ℕ)) → after ≡ orElse before x → before ≡ a → after ≡ orElse a x
-step x e f = e ∙ ap (λ o. orElse o x) f
+pub onwards-each : (before : Outcome (Unit {0})) (xs : List (Outcome (Unit {0}))) → onwards before xs ≡ before ⨾ each xs
+onwards-each (refused n) [] = refl
+onwards-each (done a) [] = refl
+onwards-each (refused n) (x ∷ xs) = onwards-each (refused n) xs
+onwards-each (done a) (x ∷ xs) = onwards-each x xs
+
+pub step : {a before after : Outcome (Unit {0})} (x : Outcome (Unit {0})) → after ≡ before ⨾ x → before ≡ a → after ≡ a ⨾ x
+step x e f = e ∙ ap (λ o. o ⨾ x) f

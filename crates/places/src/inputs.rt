@@ -1,37 +1,35 @@
-// The first word of a call that is too large, among all its inputs in their order.
+// The refusals that name a place, as a job gives them.
 ghost use mathlib.Core.Path.{_≡_};
-ghost use Rattle.places.specs.Inputs.{inOrder, highIn, orElse, firstWord, told};
+ghost use mathlib.Core.List.{[], _∷_};
+ghost use Prim.Native.Nat.{_≤_};
+ghost use lib.ListN.{length};
+ghost use Rattle.residue.specs.Chosen.{chosen};
+ghost use Rattle.job.specs.Outcome.{outcome, unless, _⨾_};
+ghost use Rattle.places.specs.Inputs.{maxWords, Short, inOrder, below, judgeWords, noZero, noEqual};
+use job::Answer;
+use job::Input;
+use job::Refusal;
+use residue::Field;
+use residue::Residue;
+use words::scan;
 
-// A place in an input, and the input by its number.
-pub struct Place {
-    pub index: usize,
-    pub input: u32,
-}
-
-pub enum Found {
-    Nothing,
-    At(Place),
-}
-
-// One input more, where nothing was found before it.
-fn or_in(found: Found, input: u32, s: &[u32], bound: u32) -> Found
-    ensures { λ r. ⌜ told r ≡ orElse (told found) (highIn bound (input, now (s .entry))) ⌝ }
+// One input more, where nothing is due before it.
+fn or_in(answer: Answer, input: Input, s: &[u32], field: Field) -> Answer
+    requires { ⌜ length (now s) ≤ maxWords ⌝ }
+    ensures { λ a. ⌜ outcome a ≡ outcome answer ⨾ below (chosen field) (input, now (s .entry)) ⌝ }
 {
-    if let Found::At(p) = found {
-        return Found::At(p);
+    if let Answer::Refused(r) = answer {
+        return Answer::Refused(r);
     }
-    let k = crate::first_high(s, bound);
+    let k = crate::first_high(s, Residue::modulus(field));
     if k < s.len() {
-        return Found::At(Place {
-            index: k,
-            input: input,
-        });
+        return Answer::Refused(Refusal::Word(input, k as u32));
     }
-    Found::Nothing
+    Answer::Done
 }
 
-// Base row, diagonals, block or message, point, claimed value, challenges and opening. A job lends nothing for what it has not.
-pub fn first_word(
+// The first word of a call that is not below the modulus. A call lends nothing for what it has not.
+fn first_word(
     g: &[u32],
     t: &[u32],
     t2: &[u32],
@@ -40,16 +38,86 @@ pub fn first_word(
     y: &[u32],
     r: &[u32],
     opening: &[u32],
-    bound: u32,
-) -> Found
-    ensures { λ p. ⌜ told p ≡ firstWord bound (inOrder (now (g .entry)) (now (t .entry)) (now (t2 .entry)) (now (block .entry)) (now (z .entry)) (now (y .entry)) (now (r .entry)) (now (opening .entry))) ⌝ }
+    field: Field,
+) -> Answer
+    requires { ⌜ Short (now g) (now t) (now t2) (now block) (now z) (now y) (now r) (now opening) ⌝ }
+    ensures { λ a. ⌜ outcome a ≡ judgeWords (chosen field) (inOrder (now (g .entry)) (now (t .entry)) (now (t2 .entry)) (now (block .entry)) (now (z .entry)) (now (y .entry)) (now (r .entry)) (now (opening .entry))) ⌝ }
 {
-    let row = or_in(Found::Nothing, 1, g, bound);
-    let first = or_in(row, 2, t, bound);
-    let second = or_in(first, 3, t2, bound);
-    let block_too = or_in(second, 4, block, bound);
-    let point = or_in(block_too, 5, z, bound);
-    let value = or_in(point, 6, y, bound);
-    let challenges = or_in(value, 7, r, bound);
-    or_in(challenges, 8, opening, bound)
+    let row = or_in(Answer::Done, Input::G, g, field);
+    let first = or_in(row, Input::T, t, field);
+    let second = or_in(first, Input::T2, t2, field);
+    let block_too = or_in(second, Input::Block, block, field);
+    let point = or_in(block_too, Input::Z, z, field);
+    let value = or_in(point, Input::Y, y, field);
+    let challenges = or_in(value, Input::R, r, field);
+    or_in(challenges, Input::Opening, opening, field)
+}
+
+// 4. Where the flag tells that every word is below the modulus, none is looked for.
+pub fn judge_words(
+    words: bool,
+    g: &[u32],
+    t: &[u32],
+    t2: &[u32],
+    block: &[u32],
+    z: &[u32],
+    y: &[u32],
+    r: &[u32],
+    opening: &[u32],
+    field: Field,
+) -> Answer
+    requires { ⌜ Short (now g) (now t) (now t2) (now block) (now z) (now y) (now r) (now opening) ⌝ }
+    ensures { λ a. ⌜ outcome a ≡ unless words (judgeWords (chosen field) (inOrder (now (g .entry)) (now (t .entry)) (now (t2 .entry)) (now (block .entry)) (now (z .entry)) (now (y .entry)) (now (r .entry)) (now (opening .entry)))) ⌝ }
+{
+    if words {
+        return Answer::Done;
+    }
+    first_word(g, t, t2, block, z, y, r, opening, field)
+}
+
+// The same for a call that is lent no base row, no claim and no opening.
+pub fn judge_without_row(
+    words: bool,
+    t: &[u32],
+    t2: &[u32],
+    block: &[u32],
+    z: &[u32],
+    r: &[u32],
+    field: Field,
+) -> Answer
+    requires { ⌜ Short [] (now t) (now t2) (now block) (now z) [] (now r) [] ⌝ }
+    ensures { λ a. ⌜ outcome a ≡ unless words (judgeWords (chosen field) (inOrder [] (now (t .entry)) (now (t2 .entry)) (now (block .entry)) (now (z .entry)) [] (now (r .entry)) [])) ⌝ }
+{
+    if words {
+        return Answer::Done;
+    }
+    let none = &t[..0];
+    first_word(none, t, t2, block, z, none, r, none, field)
+}
+
+// 5. The place is looked for only where there is one.
+pub fn judge_row(g: &[u32]) -> Answer
+    requires { ⌜ length (now g) ≤ maxWords ⌝ }
+    ensures { λ a. ⌜ outcome a ≡ noZero (now (g .entry)) ⌝ }
+{
+    if scan::none_zero(g) {
+        return Answer::Done;
+    }
+    let k = crate::first_zero(g);
+    Answer::Refused(Refusal::BaseRow(k as u32))
+}
+
+// 6. Where the flag tells that the diagonals differ in every place, none is looked for.
+pub fn judge_diagonals(apart: bool, t: &[u32], t2: &[u32]) -> Answer
+    requires { ⌜ length (now t) ≤ maxWords ⌝ }
+    ensures { λ a. ⌜ outcome a ≡ unless apart (noEqual (now (t .entry)) (now (t2 .entry))) ⌝ }
+{
+    if apart {
+        return Answer::Done;
+    }
+    let k = crate::first_equal(t, t2);
+    if k < crate::shorter(t.len(), t2.len()) {
+        return Answer::Refused(Refusal::Diagonals(k as u32));
+    }
+    Answer::Done
 }

@@ -1,3 +1,4 @@
+pub mod Judged
 pub mod Values
 pub mod Factors
 pub mod LowMonomials

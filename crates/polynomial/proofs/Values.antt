@@ -1,29 +1,20 @@
 -- The value of a message by its halves, and by the monomials of the low variables. Assumes nothing.
 use mathlib.Core.Path.{_≡_, sym, ap, ap₂, _∙_, subst}
-use mathlib.Core.Bool.{_&&_}
 use mathlib.Core.List.{List, [], _∷_, _++_}
 use Prim.Native.Nat.{ℕ, suc, _-_, _/_, _^_, _<_, _≤_}
 use native.Mathlib.Omega.{arith}
-use lib.Dec.{eqb}
 use lib.ListN.{length, take, drop, getD, length-take}
 use lib.Pow.{pow-mono}
 use lib.Seq.{take-all, take-suc}
-use borrow.Author.Tests.{eqb-true}
 use Rattle.algebra.specs.Ring.{Ring}
 use Rattle.algebra.specs.Field.{Field}
 use Rattle.algebra.specs.Sums.{sum, sum-ext}
-use Rattle.algebra.specs.Tests.{and-both}
 use Rattle.algebra.specs.Words.{Words, PrimeField}
 use Rattle.algebra.specs.WordLists.{elements, elements-take, elements-drop, elements-append, length-elements, getD-elements}
-use Rattle.job.specs.Outcome.{done}
-use Rattle.job.specs.OutcomeLaws.{require-done, held}
-use Rattle.job.specs.Limits.{depthOk}
 use Rattle.multilinear.specs.Polynomial.{monomial, form, poly, poly-top}
 use Rattle.residue.specs.ResidueLaws.{stands}
-use Rattle.words.specs.Scans.{allBelow}
-use Rattle.words.specs.ScanLaws.{all-below}
 use Rattle.residue.specs.Sums.{Lent, inner}
-use Rattle.polynomial.specs.Evaluation.{EvaluateInput, evaluateLengths, judgeEvaluating}
+use Rattle.polynomial.specs.Evaluation.{EvaluateInput}
 use Rattle.polynomial.specs.EvaluationLaws.{lower, half-is, length-lower, rest}
 use Rattle.polynomial.specs.Monomials.{Monomials}
 use Rattle.polynomial.specs.MonomialLaws.{monomial-take}
@@ -91,14 +82,3 @@ module _ (𝓕 : PrimeField) where
         let b : el r ≡ poly K (drop (2 ^ length y) (elements 𝓕 m)) y =
         ap el el-r ∙ 𝓕 .words .el-val _ ∙ ap (λ w. poly K w y) (ap (elements 𝓕) (rest 𝓕 m z 𝓔 lo) ∙ elements-drop 𝓕 (length m / 2) m ∙ ap (λ k. drop k (elements 𝓕 m)) size) in
         e ∙ ap word (ap₂ (λ s t. s ⊞ x ⊠ t) a b ∙ sym (poly-top K (elements 𝓕 m) y x) ∙ ap (poly K (elements 𝓕 m)) (sym (elements-append 𝓕 (lower z) (top z ∷ [])) ∙ ap (elements 𝓕) last))
-
-  -- the job's tests have passed
-  pub evaluates : (d : ℕ) (m z : List ℕ) → judgeEvaluating 𝓕 d m z ≡ done tt → EvaluateInput 𝓕 m z
-  unfolding judgeEvaluating evaluateLengths
-  evaluates d m z e =
-      let a = require-done (depthOk d) 1 e in
-      let b = require-done (evaluateLengths d (length m) (length z)) 3 (a .1) in
-      let c = held (allBelow 𝓕 m && allBelow 𝓕 z) 4 (b .1) in
-      let l = and-both (eqb (length m) (2 ^ d)) _ (b .0) in
-      let w = and-both (allBelow 𝓕 m) _ c in
-      record { size = eqb-true _ _ (l .0) ∙ ap (λ k. 2 ^ k) (sym (eqb-true _ _ (l .1))); message = all-below 𝓕 m (w .0); point = all-below 𝓕 z (w .1) }

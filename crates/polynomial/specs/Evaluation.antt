@@ -1,17 +1,18 @@
 -- The job of evaluation: its answer for every input. Assumes nothing.
 use mathlib.Core.Path.{_≡_}
 use mathlib.Core.Bool.{Bool, _&&_}
-use mathlib.Core.List.{List}
+use mathlib.Core.List.{List, [], _∷_}
 use Prim.Native.Nat.{ℕ, _^_}
 use lib.Dec.{eqb}
 use lib.ListN.{length}
 use Rattle.algebra.specs.Field.{Field}
 use Rattle.algebra.specs.Words.{Words, PrimeField}
 use Rattle.algebra.specs.WordLists.{Low, elements}
+use Rattle.job.specs.declared.Input.the-variants.{Block, Z}
 use Rattle.job.specs.Outcome.{Outcome, refused, done, require, _⨾_, due}
 use Rattle.job.specs.Limits.{depthOk}
 use Rattle.multilinear.specs.Polynomial.{poly}
-use Rattle.words.specs.Scans.{allBelow}
+use Rattle.places.specs.Inputs.{Lent, judgeWords}
 use Rattle.polynomial.specs.declared.Evaluation.{Evaluation}
 use Rattle.polynomial.specs.declared.Evaluation.the-variants.{Value, Refused}
 
@@ -24,13 +25,17 @@ evaluationOutcome (Refused r) = refused (due r)
 unfoldable pub evaluateLengths : ℕ → ℕ → ℕ → Bool
 evaluateLengths d m z = eqb m (2 ^ d) && eqb z d
 
+-- what is lent, in its order: a message counts as the block
+abbrev pub evaluateInputs : List ℕ → List ℕ → List Lent
+evaluateInputs m z = (Block, m) ∷ (Z, z) ∷ []
+
 module _ (𝓕 : PrimeField) where
   open PrimeField 𝓕 using (modulus as P, field as F, words as W)
   open Field F using (ring as K)
   open Words W using (val as word)
 
   unfoldable pub judgeEvaluating : ℕ → List ℕ → List ℕ → Outcome (Unit {0})
-  judgeEvaluating d m z = require (depthOk d) 1 ⨾ require (evaluateLengths d (length m) (length z)) 3 ⨾ require (allBelow 𝓕 m && allBelow 𝓕 z) 4
+  judgeEvaluating d m z = require (depthOk d) 1 ⨾ require (evaluateLengths d (length m) (length z)) 3 ⨾ judgeWords 𝓕 (evaluateInputs m z)
 
   -- the polynomial's value at the point
   abbrev pub evaluation : ℕ → List ℕ → List ℕ → Outcome ℕ

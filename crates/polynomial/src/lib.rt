@@ -13,6 +13,7 @@ ghost use Rattle.polynomial.specs.Evaluation.{EvaluateInput, evaluateLen
 ghost use Rattle.polynomial.specs.Monomials.{Monomials};
 use job::Answer;
 use job::Refusal;
+use places::inputs;
 use residue::Field;
 use residue::Residue;
 use residue::sums;
@@ -75,16 +76,19 @@ fn words_ok(m: &[u32], z: &[u32], field: Field) -> bool
     scan::all_below(z, field)
 }
 
-// The tests are made before any refusal, which costs a refused call one scan.
+// A place is looked for only where the flag of all words is not set. A message counts as the block.
 fn judge(depth: u32, m: &[u32], z: &[u32], field: Field) -> Answer
     ensures { λ r. ⌜ outcome r ≡ judgeEvaluating (chosen field) depth (now (m .entry)) (now (z .entry)) ⌝ }
 {
-    let shallow = job::depth_ok(depth);
-    let sized = lengths_ok(depth, m.len(), z.len());
-    let below = words_ok(m, z, field);
-    let words = job::require(below, Refusal::Word, Answer::Done);
-    let lengths = job::require(sized, Refusal::Length, words);
-    job::require(shallow, Refusal::Depth, lengths)
+    if !job::depth_ok(depth) {
+        return Answer::Refused(Refusal::Depth);
+    }
+    if !lengths_ok(depth, m.len(), z.len()) {
+        return Answer::Refused(Refusal::Length);
+    }
+    let words = words_ok(m, z, field);
+    let none = &m[..0];
+    inputs::judge_without_row(words, none, none, m, z, none, field)
 }
 
 pub fn evaluate(depth: u32, message: &[u32], point: &[u32]) -> Evaluation

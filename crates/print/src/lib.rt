@@ -1,5 +1,6 @@
 // Lines of a label and numbers.
 use job::Answer;
+use job::Refusal;
 use libc::STDOUT_FILENO;
 
 pub fn label(text: &[u8]) {
@@ -31,11 +32,27 @@ pub fn words(text: &[u8], s: &[u32]) {
     end();
 }
 
-// An answer's number.
+// A number and its places.
+pub fn places(n: u32, first: u32, second: u32) {
+    number(n);
+    number(first);
+    number(second);
+    end();
+}
+
+pub fn refusal(text: &[u8], r: Refusal) {
+    label(text);
+    let n = job::numbers_of(r);
+    places(n.number, n.first, n.second);
+}
+
+// An answer's number and places.
 pub fn answer(text: &[u8], a: Answer) {
-    let n = match a {
-        Answer::Done => 0,
-        Answer::Refused(r) => job::number(r),
-    };
-    line(text, n);
+    match a {
+        Answer::Done => {
+            label(text);
+            places(0, 0, 0);
+        }
+        Answer::Refused(r) => refusal(text, r),
+    }
 }

@@ -7,7 +7,9 @@ use native.Mathlib.Decide.{decLt}
 use native.Mathlib.Omega.{arith}
 use lib.Dec.{eqb}
 use borrow.Author.Tests.{eqb-true, eq-eqb}
-use Rattle.table.specs.Depth.{isPowerTo, exponentTo}
+use Rattle.job.specs.Limits.{maxDepth, maxMessage}
+use Rattle.job.specs.LimitLaws.{power-most}
+use Rattle.table.specs.Depth.{isPowerTo, exponentTo, isPower, exponent}
 
 -- what the exponent is
 Is : ℕ → ℕ → ℕ → Type 0
@@ -30,6 +32,10 @@ exponent-most k n e = is-to k n e .0
 pub exponent-is : (k n : ℕ) → isPowerTo k n ≡ true → n ≡ 2 ^ exponentTo k n
 unfolding Is
 exponent-is k n e = is-to k n e .1
+
+-- none is longer than the largest message
+pub length-most : (n : ℕ) → isPower n ≡ true → n ≤ maxMessage
+length-most n e = omega (arith, exponent-is maxDepth n e, power-most (exponent n) (exponent-most maxDepth n e))
 
 -- each such power is one, with its own exponent
 or-true : (b : Bool) → (b || true) ≡ true

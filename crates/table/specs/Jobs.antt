@@ -1,7 +1,7 @@
 -- What the two table jobs answer, and what they leave in the buffers. Assumes nothing.
 use mathlib.Core.Path.{_≡_}
 use mathlib.Core.Bool.{_&&_}
-use mathlib.Core.List.{List, map}
+use mathlib.Core.List.{List, [], _∷_, map}
 use Prim.Native.Nat.{ℕ, _^_}
 use lib.Dec.{eqb}
 use lib.IntN.{ℤ}
@@ -11,9 +11,10 @@ use Rattle.algebra.specs.Words.{PrimeField}
 use Rattle.algebra.specs.WordLists.{Low, elements, toWords}
 use Rattle.multilinear.specs.Table.{table}
 use Rattle.job.specs.declared.Answer.{Answer}
+use Rattle.job.specs.declared.Input.the-variants.{Block}
 use Rattle.job.specs.Outcome.{Outcome, refused, done, require, _⨾_, outcome, kept}
 use Rattle.residue.specs.Elements.{P, K, el}
-use Rattle.words.specs.Scans.{allBelow}
+use Rattle.places.specs.Inputs.{judgeWords}
 use Rattle.clearance.specs.Clearances.{inRange, residueOf, clearanceOf}
 use Rattle.table.specs.Depth.{isPower, exponent}
 
@@ -37,9 +38,9 @@ module _ (𝓕 : PrimeField) where
     pub answer : outcome r ≡ judgeTable t (length old)
     pub message : Leaves (judgeTable t (length old)) old new (MessageOf t new)
 
-  -- the outcome for a message, and for the lengths of the clearances' and the work buffer
+  -- the outcome for a message, which counts as the block, and for the lengths of the clearances' and the work buffer
   abbrev pub judgeMessage : List ℕ → ℕ → ℕ → Outcome (Unit {0})
-  judgeMessage m n k = require (isPower (length m)) 1 ⨾ require (eqb n (length m) && eqb k (length m)) 3 ⨾ require (allBelow 𝓕 m) 4
+  judgeMessage m n k = require (isPower (length m)) 1 ⨾ require (eqb n (length m) && eqb k (length m)) 3 ⨾ judgeWords 𝓕 ((Block, m) ∷ [])
 
   -- the table of a message, as clearances
   abbrev pub tableOf : List ℕ → List ℤ

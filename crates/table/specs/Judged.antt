@@ -1,5 +1,5 @@
 -- What holds where the table jobs are done, and that they are done where it holds. Assumes nothing.
-use mathlib.Core.Path.{_≡_, ap₂}
+use mathlib.Core.Path.{_≡_, refl, ap₂}
 use mathlib.Core.Bool.{true, _&&_}
 use mathlib.Core.List.{List}
 use Prim.Native.Nat.{ℕ}
@@ -10,7 +10,7 @@ use borrow.Author.Tests.{eq-eqb, eqb-true}
 use Rattle.algebra.specs.Words.{PrimeField}
 use Rattle.algebra.specs.Tests.{all, and-both}
 use Rattle.job.specs.Outcome.{done}
-use Rattle.job.specs.OutcomeLaws.{pass, holds, require-done, held}
+use Rattle.job.specs.OutcomeLaws.{pass, holds, pass-demand, require-done, demand-done, held}
 use Rattle.words.specs.Scans.{allBelow}
 use Rattle.clearance.specs.Clearances.{inRange}
 use Rattle.table.specs.Depth.{isPower}
@@ -43,7 +43,7 @@ module _ (𝓕 : PrimeField) (m : List ℕ) (n k : ℕ) where
       let a = require-done (isPower (length m)) 1 e in
       let b = require-done (eqb n (length m) && eqb k (length m)) 3 (a .1) in
       let l = and-both (eqb n (length m)) (eqb k (length m)) (b .0) in
-      record { power = a .0; same = eqb-true n (length m) (l .0); room = eqb-true k (length m) (l .1); below = held (allBelow 𝓕 m) 4 (b .1) }
+      record { power = a .0; same = eqb-true n (length m) (l .0); room = eqb-true k (length m) (l .1); below = demand-done (allBelow 𝓕 m) _ (b .1) .0 }
 
   pub message-done : isPower (length m) ≡ true → n ≡ length m → k ≡ length m → allBelow 𝓕 m ≡ true → done tt ≡ judgeMessage 𝓕 m n k
-  message-done p q s r = pass 1 p (pass 3 (ap₂ _&&_ (eq-eqb n (length m) q) (eq-eqb k (length m) s)) (holds 4 r))
+  message-done p q s r = pass 1 p (pass 3 (ap₂ _&&_ (eq-eqb n (length m) q) (eq-eqb k (length m) s)) (pass-demand _ r refl))

@@ -15,19 +15,25 @@ use crate::transform::Way;
 use clearance::slices;
 use job::Answer;
 use job::Refusal;
+use places::inputs;
 use residue::Field;
 use words::scan;
 
-// The tests are made before any refusal, which costs a refused call one scan.
-fn judge(message: &[u32], table: usize, work: usize, field: Field) -> Answer
-    ensures { λ r. ⌜ outcome r ≡ judgeMessage (chosen field) (now (message .entry)) table work ⌝ }
+// The message counts as the block. One of its words is looked for only where a scan has found that there is one, and where the length has shown that
+// each has an index.
+fn judge(m: &[u32], table: usize, work: usize, field: Field) -> Answer
+    ensures { λ r. ⌜ outcome r ≡ judgeMessage (chosen field) (now (m .entry)) table work ⌝ }
 {
-    let power = length::is_power(message.len());
-    let same = (table == message.len()) & (work == message.len());
-    let below = scan::all_below(message, field);
-    let words = job::require(below, Refusal::Word, Answer::Done);
-    let lengths = job::require(same, Refusal::Length, words);
-    job::require(power, Refusal::Depth, lengths)
+    if !length::is_power(m.len()) {
+        return Answer::Refused(Refusal::Depth);
+    }
+    let same = (table == m.len()) & (work == m.len());
+    if !same {
+        return Answer::Refused(Refusal::Length);
+    }
+    let below = scan::all_below(m, field);
+    let none = &m[..0];
+    inputs::judge_without_row(below, none, none, m, none, none, field)
 }
 
 fn find(message: &[u32], clearances: &mut [i32], work: &mut [u32], field: Field)

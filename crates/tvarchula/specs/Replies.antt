@@ -32,12 +32,12 @@ abbrev pub given : Outcome ℕ → ℕ → ℕ
 given (refused n) old = old
 given (done v) old = v
 
--- a reading as three numbers
+-- a reading: its answer, its kind and its amount, which are 0 where the word is refused
 abbrev pub readingReply : Outcome Meaning → ReadingReply
-readingReply (refused n) = record { number = n .0; kind = 0; amount = 0 }
-readingReply (done (free n)) = record { number = 0; kind = 1; amount = n }
-readingReply (done contact) = record { number = 0; kind = 3; amount = 0 }
-readingReply (done (overlap n)) = record { number = 0; kind = 2; amount = n }
+readingReply (refused n) = record { answer = triple n; kind = 0; amount = 0 }
+readingReply (done (free n)) = record { answer = triple (0, 0, 0); kind = 1; amount = n }
+readingReply (done contact) = record { answer = triple (0, 0, 0); kind = 3; amount = 0 }
+readingReply (done (overlap n)) = record { answer = triple (0, 0, 0); kind = 2; amount = n }
 
 -- a single result, by the reply: the value where its number is 0, and else as it was
 pub data Single (answer : Outcome ℕ) (r : Reply) (old value : ℕ) : Type 0 where

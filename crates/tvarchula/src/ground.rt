@@ -2,18 +2,46 @@
 ghost use mathlib.Core.Path.{_≡_};
 ghost use Rattle.algebra.specs.Words.{𝔽₁};
 ghost use Rattle.clearance.specs.Reading.{reading};
-ghost use Rattle.tvarchula.specs.Replies.{readingReply, ToCoefficientsCall, ToTableCall, EvaluateCall};
+ghost use Rattle.job.specs.Outcome.{due};
+ghost use Rattle.tvarchula.specs.Replies.{triple, readingReply, ToCoefficientsCall, ToTableCall, EvaluateCall};
 use crate::answer;
 use crate::answer::Reply;
 use clearance::reading::Reading;
+use job::Refusal;
 use polynomial::Evaluation;
 
 // kind is 1 for free, 2 for an overlap, 3 for contact, whose amount is 0; kind and amount are 0 where the word is refused.
 #[repr(C)]
 pub struct ReadingReply {
-    pub number: u32,
+    pub answer: Reply,
     pub kind: u32,
     pub amount: u32,
+}
+
+fn read_as(kind: u32, amount: u32) -> ReadingReply
+    ensures { λ r. ⌜ r ≡ record { answer = triple (0, 0, 0); kind = kind; amount = amount } ⌝ }
+{
+    let done = Reply {
+        number: 0,
+        first: 0,
+        second: 0,
+    };
+    ReadingReply {
+        answer: done,
+        kind: kind,
+        amount: amount,
+    }
+}
+
+fn not_read(refusal: Refusal) -> ReadingReply
+    ensures { λ r. ⌜ r ≡ record { answer = triple (due refusal); kind = 0; amount = 0 } ⌝ }
+{
+    let answer = answer::refused(refusal);
+    ReadingReply {
+        answer: answer,
+        kind: 0,
+        amount: 0,
+    }
 }
 
 #[no_mangle]
@@ -22,26 +50,10 @@ pub extern "C" fn tv_read_clearance(word: u32) -> ReadingReply
 {
     let r = clearance::reading::read_clearance(word);
     match r {
-        Reading::Free(n) => ReadingReply {
-            number: 0,
-            kind: 1,
-            amount: n,
-        },
-        Reading::Contact => ReadingReply {
-            number: 0,
-            kind: 3,
-            amount: 0,
-        },
-        Reading::Overlap(n) => ReadingReply {
-            number: 0,
-            kind: 2,
-            amount: n,
-        },
-        Reading::Refused(r) => ReadingReply {
-            number: job::number(r),
-            kind: 0,
-            amount: 0,
-        },
+        Reading::Free(n) => read_as(1, n),
+        Reading::Contact => read_as(3, 0),
+        Reading::Overlap(n) => read_as(2, n),
+        Reading::Refused(r) => not_read(r),
     }
 }
 
@@ -77,10 +89,6 @@ pub extern "C" fn tv_evaluate(depth: u32, message: &[u32], z: &[u32], value: &mu
                 second: 0,
             }
         }
-        Evaluation::Refused(r) => Reply {
-            number: job::number(r),
-            first: 0,
-            second: 0,
-        },
+        Evaluation::Refused(r) => answer::refused(r),
     }
 }

@@ -4,6 +4,7 @@ ghost use Rattle.algebra.specs.Words.{𝔽₁};
 ghost use Rattle.verdict.specs.Verdicts.{numbers, numbersOf};
 ghost use Rattle.verify.specs.Verifying.{verification};
 ghost use Rattle.tvarchula.specs.Replies.{triple, WriteCall};
+use crate::answer;
 use crate::answer::Reply;
 use open::Written;
 use verify::Failure;
@@ -36,11 +37,7 @@ pub extern "C" fn tv_write_opening(
                 second: 0,
             }
         }
-        Written::Refused(n) => Reply {
-            number: job::number(n),
-            first: 0,
-            second: 0,
-        },
+        Written::Refused(n) => answer::refused(n),
     }
 }
 
@@ -83,11 +80,7 @@ fn told(v: Verdict) -> Reply
             second: 0,
         },
         Outcome::Rejected(f) => failed(f),
-        Outcome::Refused(n) => Reply {
-            number: job::number(n),
-            first: 0,
-            second: 0,
-        },
+        Outcome::Refused(n) => answer::refused(n),
     }
 }
 

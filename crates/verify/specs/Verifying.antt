@@ -1,6 +1,6 @@
 -- The job of verifying: what is refused, and the first check that fails. Definitions only. Assumes nothing.
 use mathlib.Core.Bool.{Bool, _&&_}
-use mathlib.Core.List.{List}
+use mathlib.Core.List.{List, [], _∷_}
 use mathlib.Core.Option.{Option}
 use Prim.Native.Nat.{ℕ}
 use lib.Dec.{eqb, ltb}
@@ -9,11 +9,13 @@ use Rattle.algebra.specs.Words.{Words, PrimeField}
 use Rattle.algebra.specs.WordLists.{elements}
 use Rattle.basefold.specs.Layout.{openingSize}
 use Rattle.basefold.specs.Checks.{Check, firstFailure, checks}
+use Rattle.job.specs.declared.Input.the-variants.{Block, Z, Y, R, Opening}
 use Rattle.job.specs.Outcome.{Outcome, done, _⨾_}
 use Rattle.job.specs.Limits.{blockSize}
 use Rattle.words.specs.Scans.{allBelow}
 use Rattle.parameters.specs.Lent.{lent}
-use Rattle.parameters.specs.Parameters.{rowLengths, rowWords, judgeRow}
+use Rattle.places.specs.Inputs.{Lent}
+use Rattle.parameters.specs.Parameters.{rowLengths, judgeRow}
 use Rattle.queries.specs.Queries.{judgeQueries}
 
 -- of the lengths of g, T, T', block, z, r and opening, at depth d and rate c
@@ -21,21 +23,22 @@ unfoldable pub openedLengths : ℕ → ℕ → ℕ → ℕ → ℕ → ℕ → �
 openedLengths d c g t t' w z r o =
     rowLengths d c g t t' && (eqb w (blockSize c d) && (eqb z d && (eqb r d && eqb o (openingSize c 0 d))))
 
+-- what is lent behind g, T and T'; the claimed value is an input of one word
+abbrev pub claimInputs : (w z : List ℕ) (y : ℕ) (r o : List ℕ) → List Lent
+claimInputs w z y r o = (Block, w) ∷ (Z, z) ∷ (Y, y ∷ []) ∷ (R, r) ∷ (Opening, o) ∷ []
+
 module _ (𝓕 : PrimeField) where
   open PrimeField 𝓕 using (modulus as P, field as F, words as W)
   open Words W using (el)
 
-  -- of the words of block, z, y, r and opening; and of all
+  -- of the words of block, z, y, r and opening, as one flag
   abbrev pub claimWords : (w z : List ℕ) (y : ℕ) (r o : List ℕ) → Bool
   claimWords w z y r o = allBelow 𝓕 w && (allBelow 𝓕 z && (ltb y P && (allBelow 𝓕 r && allBelow 𝓕 o)))
-
-  unfoldable pub openedWords : (g t t' w z : List ℕ) (y : ℕ) (r o : List ℕ) → Bool
-  openedWords g t t' w z y r o = rowWords 𝓕 g t t' && claimWords w z y r o
 
   -- the refusals, in their order: of all that is lent but the queries, then of these
   abbrev pub judgeOpened : (d c : ℕ) (g t t' w z : List ℕ) (y : ℕ) (r o : List ℕ) → Outcome (Unit {0})
   judgeOpened d c g t t' w z y r o =
-      judgeRow d c g t t' (openedLengths d c (length g) (length t) (length t') (length w) (length z) (length r) (length o)) (openedWords g t t' w z y r o)
+      judgeRow 𝓕 d c g t t' (openedLengths d c (length g) (length t) (length t') (length w) (length z) (length r) (length o)) (claimInputs w z y r o)
 
   unfoldable pub judgeVerifying : (d c : ℕ) (g t t' w z : List ℕ) (y : ℕ) (r us o : List ℕ) → Outcome (Unit {0})
   judgeVerifying d c g t t' w z y r us o = judgeOpened d c g t t' w z y r o ⨾ judgeQueries d c us

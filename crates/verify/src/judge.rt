@@ -98,7 +98,23 @@ fn judge_opened(
     );
     let row = parameters::scan_row(lengths, g, t, t2, field);
     let words = words_ok(row.words, block, z, y, r, opening, field);
-    parameters::judge(depth, rate, g, lengths, words, row.apart)
+    let claim = [y];
+    parameters::judge(
+        depth,
+        rate,
+        g,
+        t,
+        t2,
+        block,
+        z,
+        &claim,
+        r,
+        opening,
+        lengths,
+        words,
+        row.apart,
+        field,
+    )
 }
 
 pub fn judge(

@@ -5,9 +5,9 @@
 pub struct Answer {
     /// 0 is done or accepted, 1 to 9 and 11 a refusal, 20 to 23 a failed check.
     pub number: u32,
-    /// 20: i. 22: j. 23: the query's position.
+    /// 4, 5 and 6: the index. 20: i. 22: j. 23: the query's position.
     pub first: u32,
-    /// 23: the level.
+    /// 4: the input. 23: the level.
     pub second: u32,
 }
 
@@ -24,34 +24,66 @@ impl Answer {
     }
 }
 
-/// Why a job refuses, with its number.
+/// What is lent, with its number and in the order in which words are judged.
+#[derive(Clone, Copy, PartialEq, Eq, Debug)]
+pub enum Input {
+    /// The base row.
+    G = 1,
+    /// The first diagonal.
+    T = 2,
+    /// The second diagonal.
+    T2 = 3,
+    /// The message or the block.
+    Block = 4,
+    /// The point.
+    Z = 5,
+    /// The value claimed there.
+    Y = 6,
+    /// The challenges, or the one of folding.
+    R = 7,
+    /// The opening.
+    Opening = 8,
+}
+
+/// Why a job refuses, and the first place that offends where that is named.
 #[derive(Clone, Copy, PartialEq, Eq, Debug)]
 pub enum Refusal {
     /// The depth, the upper level, or the length that tells the depth.
-    Depth = 1,
+    Depth,
     /// The rate.
-    Rate = 2,
+    Rate,
     /// A slice that has not its exact length.
-    Length = 3,
-    /// A word of p or more.
-    Word = 4,
+    Length,
+    /// A word of p or more: the input and its index there.
+    Word(Input, usize),
     /// A zero in the base row.
-    BaseRow = 5,
+    BaseRow(usize),
     /// Diagonals that are equal in some place.
-    Diagonals = 6,
+    Diagonals(usize),
     /// The query list: its length, or a place that is too large.
-    Queries = 7,
+    Queries,
     /// A block that is no codeword.
-    NoCodeword = 8,
+    NoCodeword,
     /// A clearance out of range.
-    Clearance = 9,
+    Clearance,
     /// A place that stands in the query list more than once.
-    Repeated = 11,
+    Repeated,
 }
 
 impl From<Refusal> for Answer {
     fn from(refusal: Refusal) -> Answer {
-        Answer::at(refusal as u32, 0, 0)
+        match refusal {
+            Refusal::Depth => Answer::at(1, 0, 0),
+            Refusal::Rate => Answer::at(2, 0, 0),
+            Refusal::Length => Answer::at(3, 0, 0),
+            Refusal::Word(input, index) => Answer::at(4, index as u32, input as u32),
+            Refusal::BaseRow(index) => Answer::at(5, index as u32, 0),
+            Refusal::Diagonals(index) => Answer::at(6, index as u32, 0),
+            Refusal::Queries => Answer::at(7, 0, 0),
+            Refusal::NoCodeword => Answer::at(8, 0, 0),
+            Refusal::Clearance => Answer::at(9, 0, 0),
+            Refusal::Repeated => Answer::at(11, 0, 0),
+        }
     }
 }
 

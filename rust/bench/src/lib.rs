@@ -15,7 +15,7 @@ mod products;
 mod sample;
 mod sizes;
 
-pub use answer::{Answer, Code, Failure, Refusal};
+pub use answer::{Answer, Code, Failure, Input, Refusal};
 pub use call::{call, Call, Job};
 pub use jobs::{Jobs, Outputs, Plain};
 pub use lent::{Buffers, Inputs};

@@ -2,7 +2,7 @@
 
 use core::cmp::Ordering;
 
-use crate::answer::{Reading, Refusal};
+use crate::answer::{Answer, Input, Reading, Refusal};
 use crate::judge;
 use crate::residue::Residue;
 
@@ -36,21 +36,22 @@ pub fn from_residue(residue: Residue) -> i32 {
 }
 
 /// Reading one word: above zero is free (kind 1), below zero an overlap (kind 2), zero contact (kind
-/// 3, with no amount). Refusal 4.
+/// 3, with no amount). Refusal 4, where the word counts as the block.
 pub fn read_clearance(word: u32) -> Reading {
-    let (number, kind, amount) = match judge::word(word) {
-        Err(refusal) => (refusal as u32, 0, 0),
+    let (answer, kind, amount) = match judge::word(Input::Block, word) {
+        Err(refusal) => (refusal.into(), 0, 0),
         Ok(residue) => {
             let x = from_residue(residue);
-            match x.cmp(&0) {
-                Ordering::Greater => (0, 1, x.unsigned_abs()),
-                Ordering::Less => (0, 2, x.unsigned_abs()),
-                Ordering::Equal => (0, 3, 0),
-            }
+            let (kind, amount) = match x.cmp(&0) {
+                Ordering::Greater => (1, x.unsigned_abs()),
+                Ordering::Less => (2, x.unsigned_abs()),
+                Ordering::Equal => (3, 0),
+            };
+            (Answer::DONE, kind, amount)
         }
     };
     Reading {
-        number,
+        answer,
         kind,
         amount,
     }
@@ -86,15 +87,22 @@ mod tests {
     #[test]
     fn readings() {
         let reading = |word| {
-            let r = read_clearance(word);
-            (r.number, r.kind, r.amount)
+            let Reading {
+                answer: Answer { number, .. },
+                kind,
+                amount,
+            } = read_clearance(word);
+            (number, kind, amount)
         };
         assert_eq!(reading(0), (0, 3, 0));
         assert_eq!(reading(1), (0, 1, 1));
         assert_eq!(reading(1_073_741_823), (0, 1, 1_073_741_823));
         assert_eq!(reading(1_073_741_824), (0, 2, 1_073_741_823));
         assert_eq!(reading(2_147_483_646), (0, 2, 1));
-        assert_eq!(reading(2_147_483_647), (4, 0, 0));
-        assert_eq!(reading(u32::MAX), (4, 0, 0));
+        for word in [2_147_483_647, u32::MAX] {
+            assert_eq!(reading(word), (4, 0, 0));
+            let Answer { first, second, .. } = read_clearance(word).answer;
+            assert_eq!((first, second), (0, 4));
+        }
     }
 }

@@ -1,6 +1,6 @@
 //! The code as lent and as judged, and its generator matrix.
 
-use crate::answer::Refusal;
+use crate::answer::{Input, Refusal};
 use crate::judge;
 use crate::residue::Residue;
 use crate::sizes::Sizes;
@@ -22,11 +22,12 @@ pub struct LentCode<'a> {
 
 impl LentCode<'_> {
     /// Refusals 1 to 6 of a call that lends the code and more: `lengths` gives the other slices'
-    /// lengths, found and due; `read` is every other slice of words that is read.
+    /// lengths, found and due; `read` is every other slice of words that is read, in the order of the
+    /// inputs.
     pub fn judge<const N: usize>(
         &self,
         lengths: impl Fn(&Sizes) -> Vec<(usize, usize)>,
-        read: [&[u32]; N],
+        read: [(Input, &[u32]); N],
     ) -> Result<(Code, [Vec<Residue>; N]), Refusal> {
         let depth = judge::depth(self.depth)?;
         let rate = judge::rate(self.rate)?;
@@ -39,13 +40,13 @@ impl LentCode<'_> {
         judge::lengths(&lengths(&sizes))?;
         let code = Code {
             sizes,
-            g: judge::words(self.g)?,
-            t: judge::words(self.t)?,
-            t2: judge::words(self.t2)?,
+            g: judge::words(Input::G, self.g)?,
+            t: judge::words(Input::T, self.t)?,
+            t2: judge::words(Input::T2, self.t2)?,
         };
         let mut words = [(); N].map(|()| Vec::new());
-        for (residues, slice) in words.iter_mut().zip(read) {
-            *residues = judge::words(slice)?;
+        for (residues, (input, slice)) in words.iter_mut().zip(read) {
+            *residues = judge::words(input, slice)?;
         }
         judge::row(&code.g)?;
         judge::diagonals(&code.t, &code.t2)?;
@@ -119,7 +120,7 @@ pub(crate) mod tests {
 
     #[test]
     fn matrix_of_the_order() {
-        let residues = |words: &[u32]| judge::words(words).unwrap();
+        let residues = |words: &[u32]| judge::words(Input::Block, words).unwrap();
         let code = Code {
             sizes: Sizes { depth: 1, rate: 2 },
             g: residues(&[1, 1]),

@@ -1,6 +1,6 @@
 //! Decoding.
 
-use crate::answer::{Answer, Refusal};
+use crate::answer::{Answer, Input, Refusal};
 use crate::code::{Code, LentCode};
 use crate::encode::codeword;
 use crate::judge;
@@ -55,7 +55,7 @@ fn try_decode(
                 (work.len(), sizes.top_block()),
             ]
         },
-        [block],
+        [(Input::Block, block)],
     )?;
     work.fill(0);
     let found = message_of(&code, &block).ok_or(Refusal::NoCodeword)?;
@@ -159,5 +159,6 @@ mod tests {
         let mut work = [8, 8];
         let answer = decode(lent, &[u32::MAX, 6], &mut message, &mut work);
         assert_eq!((answer.number, message, work), (4, [3], [8, 8]));
+        assert_eq!((answer.first, answer.second), (0, 4));
     }
 }

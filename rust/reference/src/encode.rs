@@ -1,6 +1,6 @@
 //! Encoding.
 
-use crate::answer::{Answer, Refusal};
+use crate::answer::{Answer, Input, Refusal};
 use crate::code::{times, Code, LentCode};
 use crate::judge;
 use crate::residue::Residue;
@@ -57,7 +57,7 @@ fn try_encode(lent: LentCode, message: &[u32], block: &mut [u32]) -> Result<(), 
                 (block.len(), sizes.top_block()),
             ]
         },
-        [message],
+        [(Input::Block, message)],
     )?;
     judge::write(block, &codeword(&code, code.sizes.depth, &message));
     Ok(())

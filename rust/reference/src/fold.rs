@@ -1,6 +1,6 @@
 //! Folding by one level.
 
-use crate::answer::{Answer, Refusal};
+use crate::answer::{Answer, Input, Refusal};
 use crate::judge;
 use crate::residue::Residue;
 use crate::sizes::Sizes;
@@ -53,10 +53,10 @@ fn try_fold(
         (block.len(), upper),
         (out.len(), lower),
     ])?;
-    let t = judge::words(t)?;
-    let t2 = judge::words(t2)?;
-    let block = judge::words(block)?;
-    let challenge = judge::word(challenge)?;
+    let t = judge::words(Input::T, t)?;
+    let t2 = judge::words(Input::T2, t2)?;
+    let block = judge::words(Input::Block, block)?;
+    let challenge = judge::word(Input::R, challenge)?;
     judge::diagonals(&t, &t2)?;
     judge::write(out, &fold_block(&t, &t2, &block, challenge));
     Ok(())
@@ -109,21 +109,24 @@ mod tests {
     #[test]
     fn refusals() {
         let p = Residue::MODULUS;
-        let number = |level, rate, t: &[u32], t2: &[u32], block: &[u32], a, out: usize| {
+        let answer = |level, rate, t: &[u32], t2: &[u32], block: &[u32], a, out: usize| {
             let mut result = vec![7; out];
             let answer = fold(level, rate, t, t2, block, a, &mut result);
             assert!(answer.number == 0 || result.iter().all(|&word| word == 7));
-            answer.number
+            (answer.number, answer.first, answer.second)
         };
         let (t, t2, block) = ([2, 3], [4, 5], [1, 2, 3, 4]);
-        assert_eq!(number(1, 2, &t, &t2, &block, 0, 2), 0);
-        assert_eq!(number(0, 1, &t, &t2, &block, 0, 2), 1);
-        assert_eq!(number(21, 2, &t, &t2, &block, 0, 2), 1);
-        assert_eq!(number(20, 2, &t, &t2, &block, 0, 2), 3);
-        assert_eq!(number(1, 17, &t, &t2, &block, p, 3), 2);
-        assert_eq!(number(1, 2, &t, &t2, &block, p, 3), 3);
-        assert_eq!(number(1, 2, &t, &t, &block, p, 2), 4);
-        assert_eq!(number(1, 2, &t, &[4, p], &block, 0, 2), 4);
-        assert_eq!(number(1, 2, &t, &[4, 3], &block, 0, 2), 6);
+        assert_eq!(answer(1, 2, &t, &t2, &block, 0, 2), (0, 0, 0));
+        assert_eq!(answer(0, 1, &t, &t2, &block, 0, 2), (1, 0, 0));
+        assert_eq!(answer(21, 2, &t, &t2, &block, 0, 2), (1, 0, 0));
+        assert_eq!(answer(20, 2, &t, &t2, &block, 0, 2), (3, 0, 0));
+        assert_eq!(answer(1, 17, &t, &t2, &block, p, 3), (2, 0, 0));
+        assert_eq!(answer(1, 2, &t, &t2, &block, p, 3), (3, 0, 0));
+        assert_eq!(answer(1, 2, &t, &t, &block, p, 2), (4, 0, 7));
+        assert_eq!(answer(1, 2, &t, &t, &[1, 2, p, p], p, 2), (4, 2, 4));
+        assert_eq!(answer(1, 2, &t, &[4, p], &[p; 4], p, 2), (4, 1, 3));
+        assert_eq!(answer(1, 2, &[2, p], &[p; 2], &[p; 4], p, 2), (4, 1, 2));
+        assert_eq!(answer(1, 2, &t, &[4, 3], &block, 0, 2), (6, 1, 0));
+        assert_eq!(answer(1, 2, &t, &t, &block, 0, 2), (6, 0, 0));
     }
 }

@@ -1,7 +1,7 @@
 //! The refusals, one function per number. A job calls them in ascending order, so that the
 //! smallest number that applies is the one given.
 
-use crate::answer::Refusal;
+use crate::answer::{Input, Refusal};
 use crate::residue::Residue;
 use crate::sizes::{Sizes, MAX_DEPTH, MAX_QUERIES, MAX_TABLE, RATES};
 use std::collections::HashSet;
@@ -47,24 +47,36 @@ pub fn lengths(pairs: &[(usize, usize)]) -> Result<(), Refusal> {
     )
 }
 
-/// 4: every word is below p. Gives the residues.
-pub fn words(words: &[u32]) -> Result<Vec<Residue>, Refusal> {
-    words.iter().map(|&word| self::word(word)).collect()
+/// 4: every word of an input is below p. Gives the residues. A job calls this for one input after the
+/// other, in the order of [`Input`].
+pub fn words(input: Input, words: &[u32]) -> Result<Vec<Residue>, Refusal> {
+    let mut residues = Vec::with_capacity(words.len());
+    for (index, &word) in words.iter().enumerate() {
+        let residue = Residue::new(word).ok_or(Refusal::Word { input, index })?;
+        residues.push(residue);
+    }
+    Ok(residues)
 }
 
 /// 4, for a single value.
-pub fn word(word: u32) -> Result<Residue, Refusal> {
-    Residue::new(word).ok_or(Refusal::Word)
+pub fn word(input: Input, word: u32) -> Result<Residue, Refusal> {
+    Residue::new(word).ok_or(Refusal::Word { input, index: 0 })
 }
 
 /// 5: no zero in the base row.
 pub fn row(g: &[Residue]) -> Result<(), Refusal> {
-    demand(!g.contains(&Residue::ZERO), Refusal::ZeroInRow)
+    for (index, &word) in g.iter().enumerate() {
+        demand(word != Residue::ZERO, Refusal::ZeroInRow(index))?;
+    }
+    Ok(())
 }
 
 /// 6: T and T' differ in every place.
 pub fn diagonals(t: &[Residue], t2: &[Residue]) -> Result<(), Refusal> {
-    demand(t.iter().zip(t2).all(|(a, b)| a != b), Refusal::EqualPair)
+    for (index, (a, b)) in t.iter().zip(t2).enumerate() {
+        demand(a != b, Refusal::EqualPair(index))?;
+    }
+    Ok(())
 }
 
 /// 7: at depth 0 no query; else 1 to 256 places below n_(d-1).

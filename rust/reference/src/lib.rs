@@ -28,7 +28,7 @@ pub mod sumcheck;
 pub mod table;
 pub mod verify;
 
-pub use answer::{Answer, Reading, Refusal};
+pub use answer::{Answer, Input, Reading, Refusal};
 pub use code::LentCode;
 pub use jobs::{CodeJobs, GroundJobs, OpeningJobs, Reference};
 pub use residue::Residue;

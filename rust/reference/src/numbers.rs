@@ -2,9 +2,10 @@
 //! jobs. They panic where a number is not met.
 
 mod deep;
+mod places;
 mod queries;
 
-use crate::answer::Answer;
+use crate::answer::{Answer, Reading};
 use crate::code::LentCode;
 use crate::jobs::{CodeJobs, GroundJobs, OpeningJobs};
 
@@ -33,21 +34,28 @@ fn answer(number: u32, first: u32, second: u32) -> Answer {
     }
 }
 
+/// A reading that is not refused.
+fn read(kind: u32, amount: u32) -> Reading {
+    Reading {
+        answer: Answer::DONE,
+        kind,
+        amount,
+    }
+}
+
 /// Clearances and tables.
 pub fn ground<J: GroundJobs>() {
     let mut one = [77];
     let done = J::table_to_coefficients(&[-1], &mut one);
     assert_eq!((done, one), (Answer::DONE, [2_147_483_646]));
     for (word, due) in [
-        (0, (0, 3, 0)),
-        (1, (0, 1, 1)),
-        (2_147_483_646, (0, 2, 1)),
-        (1_073_741_823, (0, 1, 1_073_741_823)),
-        (1_073_741_824, (0, 2, 1_073_741_823)),
+        (0, read(3, 0)),
+        (1, read(1, 1)),
+        (2_147_483_646, read(2, 1)),
+        (1_073_741_823, read(1, 1_073_741_823)),
+        (1_073_741_824, read(2, 1_073_741_823)),
     ] {
-        let reading = J::read_clearance(word);
-        let got = (reading.number, reading.kind, reading.amount);
-        assert_eq!(got, due, "word {word}");
+        assert_eq!(J::read_clearance(word), due, "word {word}");
     }
     let (mut table, mut work) = ([77], [77]);
     let done = J::coefficients_to_table(&[1_073_741_824], &mut table, &mut work);
@@ -70,12 +78,11 @@ pub fn ground<J: GroundJobs>() {
     let mut value = 77;
     assert_eq!(J::evaluate(1, &[5, 7], &[3], &mut value), Answer::DONE);
     assert_eq!(value, 26);
-    assert_eq!(J::evaluate(1, &[5, 7], &[P], &mut value), answer(4, 0, 0));
+    assert_eq!(J::evaluate(1, &[5, 7], &[P], &mut value), answer(4, 0, 5));
     assert_eq!(J::evaluate(17, &[5, 7], &[3], &mut value), answer(3, 0, 0));
     assert_eq!(J::evaluate(21, &[5, 7], &[3], &mut value), answer(1, 0, 0));
     assert_eq!(value, 26);
-    assert_eq!(J::read_clearance(P).number, 4);
-    assert_eq!(J::read_clearance(P - 1).number, 0);
+    places::ground::<J>();
     deep::ground::<J>();
 }
 
@@ -83,9 +90,9 @@ pub fn ground<J: GroundJobs>() {
 pub fn code<J: CodeJobs>() {
     let encode = |code: LentCode, message: &[u32]| {
         let mut block = [77; 4];
-        (J::encode(code, message, &mut block).number, block)
+        (J::encode(code, message, &mut block), block)
     };
-    assert_eq!(encode(CODE, &[5, 7]), (0, BLOCK));
+    assert_eq!(encode(CODE, &[5, 7]), (Answer::DONE, BLOCK));
     let (mut message, mut work) = ([77; 2], [77; 4]);
     let done = J::decode(CODE, &BLOCK, &mut message, &mut work);
     assert_eq!((done, message, work), (Answer::DONE, [5, 7], [0; 4]));
@@ -100,24 +107,26 @@ pub fn code<J: CodeJobs>() {
     let done = J::encode(DEPTH_0, &[9], &mut block);
     assert_eq!((done, block), (Answer::DONE, [9, 9]));
 
-    assert_eq!(encode(CODE, &[5, P - 1]).0, 0);
-    assert_eq!(encode(CODE, &[5, P]), (4, [77; 4]));
+    assert_eq!(encode(CODE, &[5, P - 1]).0, Answer::DONE);
+    assert_eq!(encode(CODE, &[5, P]), (answer(4, 1, 4), [77; 4]));
     let refused = |code| encode(code, &[5, 7]);
-    assert_eq!(refused(LentCode { depth: 17, ..CODE }), (3, [77; 4]));
-    assert_eq!(refused(LentCode { depth: 21, ..CODE }), (1, [77; 4]));
-    assert_eq!(refused(LentCode { rate: 1, ..CODE }), (2, [77; 4]));
-    assert_eq!(refused(LentCode { rate: 17, ..CODE }), (2, [77; 4]));
+    let left = |number| (Answer::plain(number), [77; 4]);
+    assert_eq!(refused(LentCode { depth: 17, ..CODE }), left(3));
+    assert_eq!(refused(LentCode { depth: 21, ..CODE }), left(1));
+    assert_eq!(refused(LentCode { rate: 1, ..CODE }), left(2));
+    assert_eq!(refused(LentCode { rate: 17, ..CODE }), left(2));
     let zero_and_pair = LentCode {
         g: &[1, 0],
         t2: &[2_147_483_645, 3],
         ..CODE
     };
-    assert_eq!(refused(zero_and_pair), (5, [77; 4]));
+    assert_eq!(refused(zero_and_pair), (answer(5, 1, 0), [77; 4]));
     let pair = LentCode {
         g: CODE.g,
         ..zero_and_pair
     };
-    assert_eq!(refused(pair), (6, [77; 4]));
+    assert_eq!(refused(pair), (answer(6, 1, 0), [77; 4]));
+    places::code::<J>();
     deep::code::<J>();
 }
 
@@ -154,6 +163,7 @@ pub fn opening<J: OpeningJobs>() {
     assert_eq!(verify(8, &[]), answer(21, 0, 0));
     assert_eq!(verify(9, &[0]), answer(7, 0, 0));
     second_half::<J>();
+    places::opening::<J>();
     queries::opening::<J>();
     deep::opening::<J>();
 }

@@ -1,6 +1,6 @@
 //! Writing an opening.
 
-use crate::answer::{Answer, Refusal};
+use crate::answer::{Answer, Input, Refusal};
 use crate::code::{Code, LentCode};
 use crate::encode::codeword;
 use crate::fold::fold_block;
@@ -56,7 +56,7 @@ fn try_write_opening(
                 (work.len(), 2 * sizes.message()),
             ]
         },
-        [message, z, r],
+        [(Input::Block, message), (Input::Z, z), (Input::R, r)],
     )?;
     judge::write(opening, &opening_of(&code, &message, &z, &r));
     work.fill(0);

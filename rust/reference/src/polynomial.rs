@@ -1,6 +1,6 @@
 //! The polynomial whose coefficients a message holds, and the evaluation job.
 
-use crate::answer::{Answer, Refusal};
+use crate::answer::{Answer, Input, Refusal};
 use crate::judge;
 use crate::residue::Residue;
 use crate::LITERAL_DEPTH;
@@ -58,8 +58,8 @@ pub fn evaluate(depth: u32, message: &[u32], z: &[u32], value: &mut u32) -> Answ
 fn try_evaluate(depth: u32, message: &[u32], z: &[u32], value: &mut u32) -> Result<(), Refusal> {
     let depth = judge::depth(depth)?;
     judge::lengths(&[(message.len(), 1 << depth), (z.len(), depth)])?;
-    let message = judge::words(message)?;
-    let z = judge::words(z)?;
+    let message = judge::words(Input::Block, message)?;
+    let z = judge::words(Input::Z, z)?;
     *value = self::value(&message, &z).word();
     Ok(())
 }
@@ -88,19 +88,21 @@ mod tests {
     fn refusals() {
         let p = Residue::MODULUS;
         let mut value = 77;
-        let mut number = |depth, message: &[u32], z: &[u32]| {
+        let mut answer = |depth, message: &[u32], z: &[u32]| {
             let answer = evaluate(depth, message, z, &mut value);
             assert!(answer.number == 0 || value == 77);
-            answer.number
+            (answer.number, answer.first, answer.second)
         };
-        assert_eq!(number(21, &[p], &[]), 1);
-        assert_eq!(number(20, &[p], &[]), 3);
-        assert_eq!(number(u32::MAX, &[1], &[]), 1);
-        assert_eq!(number(1, &[p], &[1]), 3);
-        assert_eq!(number(1, &[p, 1], &[]), 3);
-        assert_eq!(number(1, &[p, 1], &[1]), 4);
-        assert_eq!(number(1, &[1, 1], &[p]), 4);
-        assert_eq!(number(0, &[9], &[]), 0);
+        assert_eq!(answer(21, &[p], &[]), (1, 0, 0));
+        assert_eq!(answer(20, &[p], &[]), (3, 0, 0));
+        assert_eq!(answer(u32::MAX, &[1], &[]), (1, 0, 0));
+        assert_eq!(answer(1, &[p], &[1]), (3, 0, 0));
+        assert_eq!(answer(1, &[p, 1], &[]), (3, 0, 0));
+        assert_eq!(answer(1, &[p, 1], &[1]), (4, 0, 4));
+        assert_eq!(answer(1, &[1, p], &[p]), (4, 1, 4));
+        assert_eq!(answer(1, &[1, 1], &[p]), (4, 0, 5));
+        assert_eq!(answer(2, &[1; 4], &[1, p]), (4, 1, 5));
+        assert_eq!(answer(0, &[9], &[]), (0, 0, 0));
         assert_eq!(value, 9);
     }
 }

@@ -1,6 +1,6 @@
 //! A table of clearances to coefficients, and back.
 
-use crate::answer::{Answer, Refusal};
+use crate::answer::{Answer, Input, Refusal};
 use crate::clearance;
 use crate::judge;
 use crate::polynomial::{bit, corner, value_by_monomials};
@@ -93,7 +93,7 @@ fn try_coefficients_to_table(
     judge::table_length(message.len())?;
     let due = message.len();
     judge::lengths(&[(clearances.len(), due), (work.len(), due)])?;
-    let message = judge::words(message)?;
+    let message = judge::words(Input::Block, message)?;
     for (clearance, value) in clearances.iter_mut().zip(corner_values(&message)) {
         *clearance = clearance::from_residue(value);
     }
@@ -164,17 +164,18 @@ mod tests {
     #[test]
     fn refusals_on_the_way_back() {
         let p = Residue::MODULUS;
-        let number = |message: &[u32], result: usize, work: usize| {
+        let answer = |message: &[u32], result: usize, work: usize| {
             let mut clearances = vec![7; result];
             let mut work = vec![8; work];
             let answer = coefficients_to_table(message, &mut clearances, &mut work);
             assert!(clearances.iter().all(|&x| x == 7) && work.iter().all(|&x| x == 8));
-            answer.number
+            (answer.number, answer.first, answer.second)
         };
-        assert_eq!(number(&[], 0, 0), 1);
-        assert_eq!(number(&[p, 0, 0], 1, 1), 1);
-        assert_eq!(number(&[p, 0], 1, 2), 3);
-        assert_eq!(number(&[p, 0], 2, 1), 3);
-        assert_eq!(number(&[p, 0], 2, 2), 4);
+        assert_eq!(answer(&[], 0, 0), (1, 0, 0));
+        assert_eq!(answer(&[p, 0, 0], 1, 1), (1, 0, 0));
+        assert_eq!(answer(&[p, 0], 1, 2), (3, 0, 0));
+        assert_eq!(answer(&[p, 0], 2, 1), (3, 0, 0));
+        assert_eq!(answer(&[p, 0], 2, 2), (4, 0, 4));
+        assert_eq!(answer(&[0, p + 1], 2, 2), (4, 1, 4));
     }
 }

@@ -1,6 +1,6 @@
 //! Verifying an opening.
 
-use crate::answer::{Answer, Refusal};
+use crate::answer::{Answer, Input, Refusal};
 use crate::code::{Code, LentCode};
 use crate::fold::line;
 use crate::judge;
@@ -171,7 +171,13 @@ pub fn judge_claim(
                 (opening.len(), sizes.opening()),
             ]
         },
-        [block, z, &[y], r, opening],
+        [
+            (Input::Block, block),
+            (Input::Z, z),
+            (Input::Y, &[y]),
+            (Input::R, r),
+            (Input::Opening, opening),
+        ],
     )?;
     let queries = judge::queries(queries, &code.sizes)?;
     judge::different(&queries)?;

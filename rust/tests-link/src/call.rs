@@ -41,9 +41,22 @@ impl Job {
             Job::VerifyOpening => &[0, 1, 2, 3, 4, 5, 6, 7, 11, 20, 21, 22, 23],
         }
     }
+
+    /// The inputs that 4 can name of this job, by the order's numbers.
+    pub fn named(self) -> &'static [u32] {
+        match self {
+            Job::TableToCoefficients => &[],
+            Job::ReadClearance | Job::CoefficientsToTable => &[4],
+            Job::Evaluate => &[4, 5],
+            Job::Encode | Job::Decode => &[1, 2, 3, 4],
+            Job::Fold => &[2, 3, 4, 7],
+            Job::WriteOpening => &[1, 2, 3, 4, 5, 7],
+            Job::VerifyOpening => &[1, 2, 3, 4, 5, 6, 7, 8],
+        }
+    }
 }
 
-/// What a job reads, as words.
+/// What a job reads, as words, in the order in which they are judged.
 #[derive(Clone, Copy, PartialEq, Eq, PartialOrd, Ord, Debug)]
 pub enum Input {
     /// The single word of a reading.
@@ -76,6 +89,21 @@ impl Input {
     /// A single value has no length that could be wrong.
     pub fn is_single(self) -> bool {
         matches!(self, Input::Word | Input::Y | Input::Challenge)
+    }
+
+    /// The order's number, by which 4 names it; the query list has none.
+    pub fn number(self) -> Option<u32> {
+        match self {
+            Input::G => Some(1),
+            Input::T => Some(2),
+            Input::T2 => Some(3),
+            Input::Word | Input::Message | Input::Block => Some(4),
+            Input::Z => Some(5),
+            Input::Y => Some(6),
+            Input::R | Input::Challenge => Some(7),
+            Input::Opening => Some(8),
+            Input::Queries => None,
+        }
     }
 }
 
@@ -154,6 +182,8 @@ pub struct Out {
     pub work: Option<Buffer<u32>>,
     /// The single result.
     pub value: u32,
+    /// Kind and amount of a reading, else zeros.
+    pub reading: (u32, u32),
 }
 
 /// The lent parts of what a call may write, empty where absent.
@@ -167,6 +197,8 @@ pub struct Parts<'a> {
     pub work: &'a mut [u32],
     /// The single result.
     pub value: &'a mut u32,
+    /// Kind and amount of a reading.
+    pub reading: &'a mut (u32, u32),
 }
 
 impl Out {
@@ -177,6 +209,7 @@ impl Out {
             table: self.table.as_mut().map_or(&mut [], Buffer::lent_mut),
             work: self.work.as_mut().map_or(&mut [], Buffer::lent_mut),
             value: &mut self.value,
+            reading: &mut self.reading,
         }
     }
 }
@@ -246,5 +279,32 @@ fn shown<T: fmt::Debug>(words: &[T]) -> String {
         format!("{} words {words:?}", words.len())
     } else {
         format!("{} words {:?}...", words.len(), &words[..8])
+    }
+}
+
+#[cfg(test)]
+mod tests {
+    use super::*;
+    use crate::good::{formed, Shape};
+    use tvarchula_reference::sample::Rng;
+
+    #[test]
+    fn what_4_can_name_is_what_is_lent() {
+        for job in [
+            Job::ReadClearance,
+            Job::TableToCoefficients,
+            Job::CoefficientsToTable,
+            Job::Evaluate,
+            Job::Encode,
+            Job::Decode,
+            Job::Fold,
+            Job::WriteOpening,
+            Job::VerifyOpening,
+        ] {
+            let call = formed(job, Shape::random(2, 3), &mut Rng::new(1));
+            let lent = call.lent.words.keys();
+            let numbers: Vec<u32> = lent.filter_map(|input| input.number()).collect();
+            assert_eq!(numbers, job.named(), "{job:?}");
+        }
     }
 }

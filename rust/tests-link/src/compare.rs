@@ -1,7 +1,8 @@
 //! Runs one call on two implementations and compares everything.
 
 use crate::buffer::Buffer;
-use crate::call::{Call, Job, Out};
+use crate::call::{Call, Out};
+use crate::place;
 use crate::tally::Tally;
 use std::fmt;
 use tvarchula_reference::Answer;
@@ -92,6 +93,9 @@ fn difference(left: &Ran, right: &Ran) -> Option<String> {
     if a.value != b.value {
         return Some(format!("values {} and {}", a.value, b.value));
     }
+    if a.reading != b.reading {
+        return Some(format!("readings {:?} and {:?}", a.reading, b.reading));
+    }
     buffers("result", &a.result, &b.result)
         .or_else(|| buffers("table", &a.table, &b.table))
         .or_else(|| buffers("work", &a.work, &b.work))
@@ -108,18 +112,21 @@ where
 }
 
 /// What no job may do, whatever the two sides agree on: a number that is not the job's, a place
-/// where none is named, a changed result after a refusal, a wrong work buffer.
+/// where none is named or that is not the first which offends, a changed result after a refusal, a
+/// reading of a refused word, a wrong work buffer.
 fn fault(before: &Call, after: &Ran) -> Option<String> {
     let answer = after.answer;
     let number = answer.number;
-    let places = match (before.job, number) {
-        (Job::ReadClearance, 0) | (_, 23) => true,
-        (_, 20 | 22) => answer.second == 0,
+    let places = match number {
+        4..=6 | 23 => true,
+        20 | 22 => answer.second == 0,
         _ => answer.first == 0 && answer.second == 0,
     };
+    let first = !(4..=6).contains(&number) || place::is_first(&before.lent, answer);
     let results = before.out.result == after.out.result
         && before.out.table == after.out.table
         && before.out.value == after.out.value;
+    let unread = after.out.reading == (0, 0);
     let work = match &after.out.work {
         Some(work) if number == 0 || number == 8 => work.lent().iter().all(|&word| word == 0),
         _ => before.out.work == after.out.work,
@@ -127,7 +134,9 @@ fn fault(before: &Call, after: &Ran) -> Option<String> {
     let rules = [
         (before.job.numbers().contains(&number), "a foreign number"),
         (places, "a place where none is named"),
+        (first, "a place that is not the first which offends"),
         (number == 0 || results, "a changed result after a refusal"),
+        (number == 0 || unread, "a reading of a refused word"),
         (work, "a wrong work buffer"),
     ];
     let broken = rules.iter().find(|(holds, _)| !holds)?;
@@ -137,7 +146,7 @@ fn fault(before: &Call, after: &Ran) -> Option<String> {
 #[cfg(test)]
 mod tests {
     use super::*;
-    use crate::call::Input;
+    use crate::call::{Input, Job};
     use crate::good::{formed, Shape};
     use crate::run;
     use tvarchula_reference::sample::Rng;
@@ -160,5 +169,41 @@ mod tests {
             let what = found.expect_err("an input was changed").what;
             assert_eq!(what, "a slice that is only read was changed");
         }
+    }
+
+    /// Both sides name the same place, and it is wrong.
+    #[test]
+    fn a_wrong_place_is_a_fault_even_if_both_name_it() {
+        fn second_word(call: &mut Call) -> Answer {
+            let answer = run::any::<Reference>(call);
+            let first = answer.first + u32::from(answer.number == 4);
+            Answer { first, ..answer }
+        }
+        let mut call = formed(Job::Evaluate, Shape::random(3, 2), &mut Rng::new(1));
+        call.lent.words_mut(Input::Z)[1..].fill(u32::MAX);
+        let found = Comparison::new(second_word, second_word).check(&call);
+        let what = found.expect_err("a wrong place").what;
+        let due = "both answer 4 (2, 5), but: a place that is not the first which offends";
+        assert_eq!(what, due);
+        let reference = run::any::<Reference>;
+        let found = Comparison::new(reference, reference).check(&call);
+        assert!(found.is_ok_and(|answer| (answer.first, answer.second) == (1, 5)));
+    }
+
+    #[test]
+    fn a_reading_of_a_refused_word_is_a_fault_even_if_both_give_it() {
+        fn reads(call: &mut Call) -> Answer {
+            let answer = run::any::<Reference>(call);
+            call.out.reading = (1, 7);
+            answer
+        }
+        let mut call = formed(Job::ReadClearance, Shape::random(0, 2), &mut Rng::new(1));
+        call.lent.words_mut(Input::Word)[0] = u32::MAX;
+        let found = Comparison::new(reads, reads).check(&call);
+        let what = found.expect_err("a reading").what;
+        assert_eq!(
+            what,
+            "both answer 4 (0, 4), but: a reading of a refused word"
+        );
     }
 }

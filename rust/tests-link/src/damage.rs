@@ -38,6 +38,8 @@ pub enum Length {
 pub enum Place {
     /// The first.
     First,
+    /// The middle one.
+    Middle,
     /// The last.
     Last,
     /// Any.
@@ -78,6 +80,8 @@ pub enum Damage {
 }
 
 const PLACES: [Place; 3] = [Place::First, Place::Last, Place::Any];
+/// Where a refusal names the place.
+const NAMED: [Place; 4] = [Place::First, Place::Middle, Place::Last, Place::Any];
 
 /// Every damage that a call can take.
 pub fn all(call: &Call) -> Vec<Damage> {
@@ -97,18 +101,16 @@ pub fn all(call: &Call) -> Vec<Damage> {
         damages.extend(lengths.map(|length| Damage::Length(slice, length)));
     }
     for &input in lent.words.keys().filter(|&&input| input != Input::Queries) {
-        for place in PLACES {
-            damages.push(Damage::Word(input, P, place));
-            damages.push(Damage::Moved(input, place));
-        }
+        damages.extend(NAMED.map(|place| Damage::Word(input, P, place)));
+        damages.extend(PLACES.map(|place| Damage::Moved(input, place)));
         let words = [P + 1, 2 * P, u32::MAX];
         damages.extend(words.map(|word| Damage::Word(input, word, Place::Any)));
     }
     if lent.words.contains_key(&Input::G) {
-        damages.extend(PLACES.map(Damage::ZeroInRow));
+        damages.extend(NAMED.map(Damage::ZeroInRow));
     }
     if lent.words.contains_key(&Input::T) {
-        damages.extend(PLACES.map(Damage::EqualPair));
+        damages.extend(NAMED.map(Damage::EqualPair));
     }
     if lent.words.contains_key(&Input::Queries) {
         damages.extend([0, 1, 256, 257, 300].map(Damage::QueryCount));
@@ -252,6 +254,7 @@ fn resize(call: &mut Call, slice: Slice, length: Length) {
 fn index(length: usize, place: Place, rng: &mut Rng) -> usize {
     match place {
         Place::First => 0,
+        Place::Middle => length / 2,
         Place::Last => length - 1,
         Place::Any => rng.below(length),
     }

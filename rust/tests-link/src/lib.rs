@@ -13,6 +13,7 @@ pub mod good;
 pub mod large;
 #[cfg(any(feature = "ground", feature = "code", feature = "opening"))]
 pub mod linked;
+pub mod place;
 pub mod run;
 pub mod sweep;
 pub mod tally;

@@ -12,17 +12,14 @@ pub fn any<J: GroundJobs + CodeJobs + OpeningJobs>(call: &mut Call) -> Answer {
     }
 }
 
-/// Runs a call of the ground group. A reading is shown as its number, kind and amount.
+/// Runs a call of the ground group.
 pub fn ground<J: GroundJobs>(call: &mut Call) -> Answer {
     let (lent, out) = (&call.lent, call.out.parts());
     match call.job {
         Job::ReadClearance => {
             let reading = J::read_clearance(lent.single(Input::Word));
-            Answer {
-                number: reading.number,
-                first: reading.kind,
-                second: reading.amount,
-            }
+            *out.reading = (reading.kind, reading.amount);
+            reading.answer
         }
         Job::TableToCoefficients => {
             let table = lent.table.as_ref().expect("a table");

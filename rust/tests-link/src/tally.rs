@@ -41,13 +41,25 @@ impl Tally {
         self.places.get(&(job, number)).map_or(0, BTreeSet::len)
     }
 
-    /// The jobs that were called, each with those of its numbers that never came.
-    pub fn missing(&self) -> Vec<(Job, u32)> {
+    /// The jobs that were called, each with those of its numbers that never came, and with 4 those of
+    /// its inputs that never were named. Every other number stands with the input 0.
+    pub fn missing(&self) -> Vec<(Job, u32, u32)> {
         let never = |job: Job| {
             let absent = job.numbers().iter().filter(move |&&n| self.of(job, n) == 0);
-            absent.map(move |&n| (job, n))
+            let unnamed = job
+                .named()
+                .iter()
+                .filter(move |&&i| !self.has_named(job, i));
+            let absent = absent.map(move |&n| (job, n, 0));
+            absent.chain(unnamed.map(move |&i| (job, 4, i)))
         };
         self.counts.keys().flat_map(|&job| never(job)).collect()
+    }
+
+    /// Whether 4 named some word of an input.
+    fn has_named(&self, job: Job, input: u32) -> bool {
+        let mut places = self.places.get(&(job, 4)).into_iter().flatten();
+        places.any(|&(_, named)| named == input)
     }
 
     /// Prints the counts, past the test harness that would hide them.
@@ -66,12 +78,41 @@ impl fmt::Display for Tally {
             write!(f, "  {job:?} {total}:")?;
             for (&number, count) in numbers {
                 write!(f, " [{number}] {count}")?;
-                if number >= 20 {
+                if matches!(number, 4..=6 | 20..) {
                     write!(f, " at {} places", self.places(*job, number))?;
                 }
             }
             writeln!(f)?;
         }
         Ok(())
+    }
+}
+
+#[cfg(test)]
+mod tests {
+    use super::*;
+
+    #[test]
+    fn a_number_or_an_input_that_never_came_is_missing() {
+        let mut tally = Tally::default();
+        let mut count = |number, first, second| {
+            let answer = Answer {
+                number,
+                first,
+                second,
+            };
+            tally.count(Job::Evaluate, answer);
+            tally.missing()
+        };
+        count(0, 0, 0);
+        count(3, 0, 0);
+        let missing = [(1, 0), (4, 4)].map(|(number, input)| (Job::Evaluate, number, input));
+        assert_eq!(count(4, 1, 5), missing);
+        assert_eq!(count(4, 0, 4), missing[..1]);
+        assert_eq!(count(1, 0, 0), []);
+        count(4, 2, 4);
+        assert_eq!(tally.places(Job::Evaluate, 4), 3);
+        let line = "  Evaluate 6: [0] 1 [1] 1 [3] 1 [4] 3 at 3 places\n";
+        assert_eq!(tally.to_string(), line);
     }
 }

@@ -1,4 +1,4 @@
-//! The constants of `include/tvarchula.h` and those of `tvarchula-sys` are the same.
+//! The constants and structs of `include/tvarchula.h` and those of `tvarchula-sys` are the same.
 
 use std::collections::BTreeMap;
 use std::fs::read_to_string;
@@ -54,6 +54,44 @@ fn constants() {
     header.retain(|name, _| !name.starts_with("TV_VERSION"));
     assert!(header.len() >= 20, "{header:?}");
     assert_eq!(header, of_rust());
+}
+
+/// The numbers of a struct in the header, in their order; another struct in it counts as its numbers.
+fn fields(header: &str, name: &str) -> Vec<String> {
+    let (before, _) = header.split_once(&format!("}} {name};")).expect(name);
+    let (_, body) = before.rsplit_once("typedef struct {").expect(name);
+    let lines = body.split(';').map(str::trim);
+    lines
+        .flat_map(|line| match line.split_once(' ') {
+            Some(("uint32_t", names)) => names.split(", ").map(str::to_owned).collect(),
+            Some((inner, _)) => fields(header, inner),
+            None => Vec::new(),
+        })
+        .collect()
+}
+
+#[test]
+fn structs() {
+    use std::mem::{offset_of, size_of};
+    use tvarchula_sys::{tv_answer, tv_reading};
+    let header = text("include/tvarchula.h");
+    let names = ["number", "first", "second", "kind", "amount"];
+    assert_eq!(fields(&header, "tv_answer"), names[..3]);
+    assert_eq!(fields(&header, "tv_reading"), names);
+    let answer = [
+        offset_of!(tv_answer, number),
+        offset_of!(tv_answer, first),
+        offset_of!(tv_answer, second),
+        size_of::<tv_answer>(),
+    ];
+    assert_eq!(answer, [0, 4, 8, 12]);
+    let reading = [
+        offset_of!(tv_reading, answer),
+        offset_of!(tv_reading, kind),
+        offset_of!(tv_reading, amount),
+        size_of::<tv_reading>(),
+    ];
+    assert_eq!(reading, [0, 12, 16, 20]);
 }
 
 /// Every crate that a caller uses, and the header, have one version.

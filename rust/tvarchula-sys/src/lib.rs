@@ -20,16 +20,18 @@ pub use numbers::*;
 /// The version of the header that these declarations belong to.
 pub const TV_VERSION: &str = env!("CARGO_PKG_VERSION");
 
-/// What a function answers: its number, and the places that the number names, else 0.
+/// What a function answers: its number, and the places that the number names, else 0. Every index
+/// counts from 0, over the whole slice as it was lent.
 #[repr(C)]
 #[derive(Clone, Copy, PartialEq, Eq, Debug)]
 #[must_use = "a job that is not done has written nothing, and only number 0 accepts an opening"]
 pub struct tv_answer {
     /// 0 is done or accepted.
     pub number: u32,
-    /// 20: i. 22: j. 23: the query's position.
+    /// 4: the index of the first word that is refused, in its input. 5: that of the first zero in g.
+    /// 6: that of the first equal pair. 20: i. 22: j. 23: the query's position.
     pub first: u32,
-    /// 23: the level.
+    /// 4: the input, [`TV_INPUT_G`] to [`TV_INPUT_OPENING`]. 23: the level.
     pub second: u32,
 }
 
@@ -38,8 +40,8 @@ pub struct tv_answer {
 #[derive(Clone, Copy, PartialEq, Eq, Debug)]
 #[must_use = "a refused word is no clearance"]
 pub struct tv_reading {
-    /// 0 is done.
-    pub number: u32,
+    /// 0 is done. 4 names word 0 of [`TV_INPUT_BLOCK`].
+    pub answer: tv_answer,
     /// [`TV_FREE`], [`TV_OVERLAP`] or [`TV_CONTACT`]; 0 when refused.
     pub kind: u32,
     /// In micrometres; 0 for contact, and when refused.

@@ -22,6 +22,23 @@ pub const TV_OVERLAP: u32 = 2;
 /// A reading's kind: contact, zero.
 pub const TV_CONTACT: u32 = 3;
 
+/// The first input that 4 names, the base row. They are judged in this order.
+pub const TV_INPUT_G: u32 = 1;
+/// The first diagonal.
+pub const TV_INPUT_T: u32 = 2;
+/// The second diagonal.
+pub const TV_INPUT_T2: u32 = 3;
+/// The message or the block, or the word that is read as a clearance.
+pub const TV_INPUT_BLOCK: u32 = 4;
+/// The point.
+pub const TV_INPUT_Z: u32 = 5;
+/// The claimed value.
+pub const TV_INPUT_Y: u32 = 6;
+/// The challenges, or the single one of folding.
+pub const TV_INPUT_R: u32 = 7;
+/// The opening.
+pub const TV_INPUT_OPENING: u32 = 8;
+
 /// The job is done.
 pub const TV_DONE: u32 = 0;
 /// The opening is accepted.
@@ -32,11 +49,11 @@ pub const TV_REFUSED_DEPTH: u32 = 1;
 pub const TV_REFUSED_RATE: u32 = 2;
 /// The length of a slice, but for the query list.
 pub const TV_REFUSED_LENGTH: u32 = 3;
-/// A word of the modulus or more, but for the query list.
+/// A word of the modulus or more, but for the query list. The answer names its place.
 pub const TV_REFUSED_WORD: u32 = 4;
-/// A zero in the base row.
+/// A zero in the base row. The answer names its place.
 pub const TV_REFUSED_ROW: u32 = 5;
-/// Diagonals that are equal in some place.
+/// Diagonals that are equal in some place. The answer names the first.
 pub const TV_REFUSED_DIAGONALS: u32 = 6;
 /// The query list: its length, or a place that is too large.
 pub const TV_REFUSED_QUERIES: u32 = 7;

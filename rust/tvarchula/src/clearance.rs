@@ -6,6 +6,7 @@ use core::fmt;
 
 use tvarchula_sys::{tv_reading, TV_CONTACT, TV_FREE, TV_OVERLAP};
 
+use crate::input::Input;
 use crate::raw;
 use crate::refusal::{done, Refusal};
 
@@ -73,20 +74,21 @@ impl fmt::Display for Reading {
 /// [`Refusal::Word`] for a word that is no residue.
 ///
 /// ```
-/// use tvarchula::{read_clearance, Reading, Refusal, MODULUS};
+/// use tvarchula::{read_clearance, Input, Reading, Refusal, MODULUS};
 /// assert_eq!(read_clearance(1250), Ok(Reading::Free(1250)));
 /// assert_eq!(read_clearance(0), Ok(Reading::Contact));
 /// assert_eq!(read_clearance(MODULUS - 1), Ok(Reading::Overlap(1)));
-/// assert_eq!(read_clearance(MODULUS), Err(Refusal::Word));
+/// let refused = Refusal::Word { input: Input::Block, index: 0, word: MODULUS };
+/// assert_eq!(read_clearance(MODULUS), Err(refused));
 /// ```
 pub fn read_clearance(word: u32) -> Result<Reading, Refusal> {
-    reading_of(raw::read_clearance(word))
+    reading_of(raw::read_clearance(word), word)
 }
 
 /// A kind that is not known here is no reading, and neither is an amount that its kind cannot have:
 /// "free by 0" is what an archive from before 0.2 says of contact.
-fn reading_of(raw: tv_reading) -> Result<Reading, Refusal> {
-    done(raw.number)?;
+fn reading_of(raw: tv_reading, word: u32) -> Result<Reading, Refusal> {
+    done(raw.answer, &[(Input::Block, &[word])])?;
     match (raw.kind, raw.amount) {
         (TV_FREE, 1..) => Ok(Reading::Free(raw.amount)),
         (TV_CONTACT, 0) => Ok(Reading::Contact),
@@ -112,7 +114,7 @@ fn reading_of(raw: tv_reading) -> Result<Reading, Refusal> {
 /// # Ok::<(), tvarchula::Refusal>(())
 /// ```
 pub fn table_to_coefficients(clearances: &[i32], message: &mut [u32]) -> Result<(), Refusal> {
-    done(raw::table_to_coefficients(clearances, message).number)
+    done(raw::table_to_coefficients(clearances, message), &[])
 }
 
 /// [`table_to_coefficients`] into a new vector.
@@ -145,7 +147,8 @@ pub fn coefficients_to_table(
     clearances: &mut [i32],
     work: &mut [u32],
 ) -> Result<(), Refusal> {
-    done(raw::coefficients_to_table(message, clearances, work).number)
+    let answer = raw::coefficients_to_table(message, clearances, work);
+    done(answer, &[(Input::Block, message)])
 }
 
 /// [`coefficients_to_table`] into a new vector.
@@ -164,17 +167,39 @@ pub fn coefficients_to_table_vec(message: &[u32]) -> Result<Vec<i32>, Refusal> {
 #[cfg(test)]
 mod tests {
     use super::*;
+    use crate::sizes::MODULUS;
     use std::string::ToString;
+    use tvarchula_sys::tv_answer;
+
+    fn raw(number: u32, [first, second]: [u32; 2], kind: u32, amount: u32) -> tv_reading {
+        let answer = tv_answer {
+            number,
+            first,
+            second,
+        };
+        tv_reading {
+            answer,
+            kind,
+            amount,
+        }
+    }
+
+    #[test]
+    fn a_refused_word_is_named() {
+        let refused = |places, word| reading_of(raw(4, places, 0, 0), word);
+        let (input, index, word) = (Input::Block, 0, MODULUS + 9);
+        let named = Refusal::Word { input, index, word };
+        assert_eq!(refused([0, 4], word), Err(named));
+        let unknown = Refusal::Unknown { number: 4, kind: 0 };
+        for places in [[0, 0], [1, 4], [0, 7], [4, 0]] {
+            assert_eq!(refused(places, word), Err(unknown));
+        }
+        assert_eq!(refused([0, 4], MODULUS - 1), Err(unknown));
+    }
 
     #[test]
     fn what_no_kind_can_say_is_no_reading() {
-        let read = |kind, amount| {
-            reading_of(tv_reading {
-                number: 0,
-                kind,
-                amount,
-            })
-        };
+        let read = |kind, amount| reading_of(raw(0, [0, 0], kind, amount), 1);
         assert_eq!(read(1, 1), Ok(Reading::Free(1)));
         assert_eq!(read(2, 1), Ok(Reading::Overlap(1)));
         assert_eq!(read(3, 0), Ok(Reading::Contact));

@@ -3,6 +3,7 @@
 #[cfg(feature = "alloc")]
 use alloc::{vec, vec::Vec};
 
+use crate::input::Input;
 use crate::raw;
 use crate::refusal::{done, Refusal};
 #[cfg(feature = "alloc")]
@@ -44,6 +45,11 @@ impl<'a> Code<'a> {
             t2,
         }
     }
+
+    /// What a call lends of it, for the place of a refusal.
+    pub(crate) const fn lent(&self) -> [(Input, &'a [u32]); 3] {
+        [(Input::G, self.g), (Input::T, self.t), (Input::T2, self.t2)]
+    }
 }
 
 /// The value at `z` of the polynomial whose coefficients the message holds: word b multiplies those
@@ -59,7 +65,8 @@ impl<'a> Code<'a> {
 /// ```
 pub fn evaluate(depth: u32, message: &[u32], z: &[u32]) -> Result<u32, Refusal> {
     let mut value = 0;
-    done(raw::evaluate(depth, message, z, &mut value).number)?;
+    let answer = raw::evaluate(depth, message, z, &mut value);
+    done(answer, &[(Input::Block, message), (Input::Z, z)])?;
     Ok(value)
 }
 
@@ -80,7 +87,9 @@ pub fn evaluate(depth: u32, message: &[u32], z: &[u32]) -> Result<u32, Refusal> 
 /// # Ok::<(), tvarchula::Refusal>(())
 /// ```
 pub fn encode(code: &Code<'_>, message: &[u32], block: &mut [u32]) -> Result<(), Refusal> {
-    done(raw::encode(code, message, block).number)
+    let [g, t, t2] = code.lent();
+    let answer = raw::encode(code, message, block);
+    done(answer, &[g, t, t2, (Input::Block, message)])
 }
 
 /// [`encode`] into a new vector.
@@ -119,7 +128,9 @@ pub fn decode(
     message: &mut [u32],
     work: &mut [u32],
 ) -> Result<(), Refusal> {
-    done(raw::decode(code, block, message, work).number)
+    let [g, t, t2] = code.lent();
+    let answer = raw::decode(code, block, message, work);
+    done(answer, &[g, t, t2, (Input::Block, block)])
 }
 
 /// [`decode`] into a new vector.
@@ -162,7 +173,14 @@ pub fn fold(
     challenge: u32,
     folded: &mut [u32],
 ) -> Result<(), Refusal> {
-    done(raw::fold(level, rate, t, t2, block, challenge, folded).number)
+    let lent: [(Input, &[u32]); 4] = [
+        (Input::T, t),
+        (Input::T2, t2),
+        (Input::Block, block),
+        (Input::R, &[challenge]),
+    ];
+    let answer = raw::fold(level, rate, t, t2, block, challenge, folded);
+    done(answer, &lent)
 }
 
 /// [`fold`] into a new vector.

@@ -42,6 +42,11 @@
 //! [`Refusal::NoCodeword`], and are as they were after any other refusal; what they hold before a
 //! call does not matter.
 //!
+//! # Where
+//!
+//! [`Refusal::Word`], [`Refusal::BaseRow`] and [`Refusal::Diagonals`] say where: which word of which
+//! slice is the first that offends, and what stands there.
+//!
 //! # Panics
 //!
 //! No input makes a function panic. An answer that this crate does not know, from an archive of
@@ -58,6 +63,7 @@ extern crate std;
 
 mod clearance;
 mod code;
+mod input;
 mod opening;
 #[allow(unsafe_code)]
 mod raw;
@@ -71,6 +77,7 @@ pub use clearance::{coefficients_to_table_vec, table_to_coefficients_vec};
 pub use code::{decode, encode, evaluate, fold, Code};
 #[cfg(feature = "alloc")]
 pub use code::{decode_vec, encode_vec, fold_vec};
+pub use input::Input;
 #[cfg(feature = "alloc")]
 pub use opening::write_opening_vec;
 pub use opening::{verdict, verify_opening, write_opening, Claim, Question};

@@ -4,6 +4,7 @@
 use alloc::{vec, vec::Vec};
 
 use crate::code::Code;
+use crate::input::Input;
 use crate::raw;
 use crate::refusal::{done, Refusal};
 #[cfg(feature = "alloc")]
@@ -65,7 +66,10 @@ pub fn write_opening(
     work: &mut [u32],
 ) -> Result<u32, Refusal> {
     let mut value = 0;
-    done(raw::write_opening(code, message, question, opening, work, &mut value).number)?;
+    let [g, t, t2] = code.lent();
+    let (z, r) = ((Input::Z, question.z), (Input::R, question.r));
+    let answer = raw::write_opening(code, message, question, opening, work, &mut value);
+    done(answer, &[g, t, t2, (Input::Block, message), z, r])?;
     Ok(value)
 }
 
@@ -177,5 +181,16 @@ pub fn verdict(
     claim: &Claim<'_>,
     opening: &[u32],
 ) -> Result<Verdict, Refusal> {
-    verdict_of(raw::verify_opening(code, block, claim, opening))
+    let [g, t, t2] = code.lent();
+    let lent: [(Input, &[u32]); 8] = [
+        g,
+        t,
+        t2,
+        (Input::Block, block),
+        (Input::Z, claim.z),
+        (Input::Y, &[claim.y]),
+        (Input::R, claim.r),
+        (Input::Opening, opening),
+    ];
+    verdict_of(raw::verify_opening(code, block, claim, opening), &lent)
 }

@@ -3,18 +3,25 @@
 use core::error::Error;
 use core::fmt;
 
-use tvarchula_sys as sys;
+use tvarchula_sys::{self as sys, tv_answer};
 
+use crate::input::Input;
 use crate::sizes::{MAX_CLEARANCE, MAX_DEPTH, MAX_RATE, MAX_TABLE_LEN, MIN_RATE, MODULUS};
 
 /// Why a job refuses what it is lent. When several reasons apply, the one with the smallest number
-/// is given.
+/// is given; where that is 4, 5 or 6, it names the first place that offends. Every index counts from
+/// 0, over the whole slice as it was lent.
 ///
 /// ```
-/// use tvarchula::{table_to_coefficients, Refusal};
+/// use tvarchula::{evaluate, table_to_coefficients, Input, Refusal, MODULUS};
 /// let refused = table_to_coefficients(&[1, 2, 3], &mut [0; 3]).unwrap_err();
 /// assert_eq!(refused, Refusal::Depth);
 /// assert_eq!(refused.number(), 1);
+///
+/// let refused = evaluate(2, &[5, 7, 11, 13], &[3, MODULUS + 1]).unwrap_err();
+/// let (input, index, word) = (Input::Z, 1, MODULUS + 1);
+/// assert_eq!(refused, Refusal::Word { input, index, word });
+/// assert_eq!(refused.to_string(), "word 1 of z is 2147483648, not below 2147483647");
 /// ```
 #[derive(Clone, Copy, PartialEq, Eq, Hash, Debug)]
 #[non_exhaustive]
@@ -30,11 +37,24 @@ pub enum Refusal {
     Length,
     /// 4: a word or single value that is read is [`MODULUS`] or more. The words of the query list are
     /// judged by 7.
-    Word,
+    Word {
+        /// The first input that has such a word.
+        input: Input,
+        /// The first such word's index in it; 0 for a single value.
+        index: usize,
+        /// The word that stands there.
+        word: u32,
+    },
     /// 5: a zero in the base row.
-    BaseRow,
+    BaseRow {
+        /// The first zero's index.
+        index: usize,
+    },
     /// 6: the two diagonals are equal in some place.
-    Diagonals,
+    Diagonals {
+        /// The index of the first such place.
+        index: usize,
+    },
     /// 7: a query list that is too short or too long, or has a place that is too large.
     Queries,
     /// 8: a well-formed block that is no codeword. Only decoding answers this.
@@ -44,8 +64,8 @@ pub enum Refusal {
     /// 11: a place that stands in the query list more than once. Only verifying answers this, before
     /// any check of the opening.
     Repeated,
-    /// The archive answered what this crate does not know: it is of another version. Nothing that
-    /// such a call wrote or said may be used.
+    /// The archive answered what this crate does not know, or a place that does not fit the call: it
+    /// is of another version. Nothing that such a call wrote or said may be used.
     Unknown {
         /// The number that it answered.
         number: u32,
@@ -62,9 +82,9 @@ impl Refusal {
             Refusal::Depth => sys::TV_REFUSED_DEPTH,
             Refusal::Rate => sys::TV_REFUSED_RATE,
             Refusal::Length => sys::TV_REFUSED_LENGTH,
-            Refusal::Word => sys::TV_REFUSED_WORD,
-            Refusal::BaseRow => sys::TV_REFUSED_ROW,
-            Refusal::Diagonals => sys::TV_REFUSED_DIAGONALS,
+            Refusal::Word { .. } => sys::TV_REFUSED_WORD,
+            Refusal::BaseRow { .. } => sys::TV_REFUSED_ROW,
+            Refusal::Diagonals { .. } => sys::TV_REFUSED_DIAGONALS,
             Refusal::Queries => sys::TV_REFUSED_QUERIES,
             Refusal::NoCodeword => sys::TV_REFUSED_NO_CODEWORD,
             Refusal::Clearance => sys::TV_REFUSED_CLEARANCE,
@@ -73,22 +93,36 @@ impl Refusal {
         }
     }
 
-    /// The refusal of a number, if it is one that this crate knows.
-    ///
-    /// ```
-    /// use tvarchula::Refusal;
-    /// assert_eq!(Refusal::from_number(5), Some(Refusal::BaseRow));
-    /// assert_eq!(Refusal::from_number(0), None);
-    /// ```
-    #[must_use]
-    pub const fn from_number(number: u32) -> Option<Refusal> {
+    /// The refusal that an answer tells of a call, if it is one that this crate knows and its place is
+    /// there: what is said of the word must be true of the caller's own.
+    fn of(answer: tv_answer, lent: Lent<'_>) -> Option<Refusal> {
+        let index = answer.first as usize;
+        let word = |input| words(lent, input)?.get(index).copied();
+        match (answer.number, answer.second) {
+            (sys::TV_REFUSED_WORD, number) => {
+                let input = Input::of(number)?;
+                let word = word(input).filter(|&word| word >= MODULUS)?;
+                Some(Refusal::Word { input, index, word })
+            }
+            (sys::TV_REFUSED_ROW, 0) => {
+                let zero = word(Input::G)? == 0;
+                zero.then_some(Refusal::BaseRow { index })
+            }
+            (sys::TV_REFUSED_DIAGONALS, 0) => {
+                let equal = word(Input::T)? == word(Input::T2)?;
+                equal.then_some(Refusal::Diagonals { index })
+            }
+            (number, 0) if index == 0 => Refusal::without_place(number),
+            _ => None,
+        }
+    }
+
+    /// The refusal of a number that names no place.
+    const fn without_place(number: u32) -> Option<Refusal> {
         Some(match number {
             sys::TV_REFUSED_DEPTH => Refusal::Depth,
             sys::TV_REFUSED_RATE => Refusal::Rate,
             sys::TV_REFUSED_LENGTH => Refusal::Length,
-            sys::TV_REFUSED_WORD => Refusal::Word,
-            sys::TV_REFUSED_ROW => Refusal::BaseRow,
-            sys::TV_REFUSED_DIAGONALS => Refusal::Diagonals,
             sys::TV_REFUSED_QUERIES => Refusal::Queries,
             sys::TV_REFUSED_NO_CODEWORD => Refusal::NoCodeword,
             sys::TV_REFUSED_CLEARANCE => Refusal::Clearance,
@@ -108,9 +142,11 @@ impl fmt::Display for Refusal {
             ),
             Refusal::Rate => write!(f, "the rate is not {MIN_RATE} to {MAX_RATE}"),
             Refusal::Length => f.write_str("a slice has not its exact length"),
-            Refusal::Word => write!(f, "a word is {MODULUS} or more"),
-            Refusal::BaseRow => f.write_str("there is a zero in the base row"),
-            Refusal::Diagonals => f.write_str("the two diagonals are equal in some place"),
+            Refusal::Word { input, index, word } => {
+                write!(f, "word {index} of {input} is {word}, not below {MODULUS}")
+            }
+            Refusal::BaseRow { index } => write!(f, "word {index} of the base row is 0"),
+            Refusal::Diagonals { index } => write!(f, "word {index} of T and of T' are equal"),
             Refusal::Queries => f.write_str(
                 "the query list is too short or too long, or one of its places is too large",
             ),
@@ -131,30 +167,154 @@ impl fmt::Display for Refusal {
 
 impl Error for Refusal {}
 
-/// The result of a job from the number it answers. Only 0 is success.
-pub(crate) const fn done(number: u32) -> Result<(), Refusal> {
-    if number == sys::TV_DONE {
-        return Ok(());
-    }
-    match Refusal::from_number(number) {
-        Some(refusal) => Err(refusal),
-        None => Err(Refusal::Unknown { number, kind: 0 }),
+/// The words that a call lends to be judged by 4, by input.
+pub(crate) type Lent<'a> = &'a [(Input, &'a [u32])];
+
+/// The words of an input that the job is lent.
+fn words(lent: Lent<'_>, input: Input) -> Option<&[u32]> {
+    let (_, words) = lent.iter().find(|(lent, _)| *lent == input)?;
+    Some(words)
+}
+
+/// The result of a job from what it answers. Only 0 is success. A place that does not fit the call, or
+/// stands with a number that names none, is of another version.
+pub(crate) fn done(answer: tv_answer, lent: Lent<'_>) -> Result<(), Refusal> {
+    let number = answer.number;
+    match (number, answer.first, answer.second) {
+        (sys::TV_DONE, 0, 0) => Ok(()),
+        _ => Err(Refusal::of(answer, lent).unwrap_or(Refusal::Unknown { number, kind: 0 })),
     }
 }
 
 #[cfg(test)]
 mod tests {
     use super::*;
+    use std::string::ToString;
+
+    const P: u32 = MODULUS;
+    const LENT: Lent<'static> = &[
+        (Input::G, &[1, 0, 0]),
+        (Input::T, &[2, 3, P, 5]),
+        (Input::T2, &[4, 3, 7, u32::MAX]),
+        (Input::Block, &[P + 1]),
+        (Input::R, &[]),
+    ];
+
+    fn answered(number: u32, first: u32, second: u32) -> Result<(), Refusal> {
+        let answer = tv_answer {
+            number,
+            first,
+            second,
+        };
+        done(answer, LENT)
+    }
+
+    fn unknown(number: u32) -> Result<(), Refusal> {
+        Err(Refusal::Unknown { number, kind: 0 })
+    }
 
     #[test]
     fn only_0_is_success() {
-        assert_eq!(done(0), Ok(()));
+        assert_eq!(answered(0, 0, 0), Ok(()));
         for number in (1..100).chain([u32::MAX]) {
-            assert_eq!(done(number).unwrap_err().number(), number);
+            let refused = answered(number, 0, 0).unwrap_err();
+            assert_eq!(refused.number(), number);
         }
-        let unknown = |number| Err(Refusal::Unknown { number, kind: 0 });
         for number in [10, 12, 20, 23, 24, 40, u32::MAX] {
-            assert_eq!(done(number), unknown(number));
+            assert_eq!(answered(number, 0, 0), unknown(number));
         }
+    }
+
+    #[test]
+    fn places_with_the_callers_words() {
+        let word = |input, index, word| Err(Refusal::Word { input, index, word });
+        assert_eq!(answered(4, 2, 2), word(Input::T, 2, P));
+        assert_eq!(answered(4, 3, 3), word(Input::T2, 3, u32::MAX));
+        assert_eq!(answered(4, 0, 4), word(Input::Block, 0, P + 1));
+        assert_eq!(answered(5, 1, 0), Err(Refusal::BaseRow { index: 1 }));
+        assert_eq!(answered(5, 2, 0), Err(Refusal::BaseRow { index: 2 }));
+        assert_eq!(answered(6, 1, 0), Err(Refusal::Diagonals { index: 1 }));
+    }
+
+    #[test]
+    fn places_that_do_not_fit() {
+        // No input, one that is not lent, one without words, an index behind its words.
+        for (first, second) in [
+            (0, 0),
+            (0, 9),
+            (2, u32::MAX),
+            (0, 5),
+            (0, 6),
+            (0, 8),
+            (0, 7),
+            (1, 4),
+            (4, 2),
+            (u32::MAX, 3),
+        ] {
+            assert_eq!(answered(4, first, second), unknown(4));
+        }
+        // A word that is legal, no zero, no equal pair: what is said must be true.
+        for (number, first, second) in [(4, 0, 1), (4, 1, 2), (4, 2, 3), (5, 0, 0), (6, 0, 0)] {
+            assert_eq!(answered(number, first, second), unknown(number));
+        }
+        for (number, first, second) in [(5, 3, 0), (6, 4, 0), (5, 1, 1), (6, 1, 2)] {
+            assert_eq!(answered(number, first, second), unknown(number));
+        }
+        for number in [0, 1, 2, 3, 7, 8, 9, 11] {
+            for (first, second) in [(1, 0), (0, 1), (2, 2)] {
+                assert_eq!(answered(number, first, second), unknown(number));
+            }
+        }
+        let refused = tv_answer {
+            number: 5,
+            first: 0,
+            second: 0,
+        };
+        assert_eq!(done(refused, &[]), unknown(5));
+    }
+
+    #[test]
+    fn sentences() {
+        let word = |input, index| Refusal::Word {
+            input,
+            index,
+            word: P,
+        };
+        for (refusal, sentence) in [
+            (
+                word(Input::G, 1),
+                "word 1 of g is 2147483647, not below 2147483647",
+            ),
+            (
+                word(Input::T2, 17),
+                "word 17 of T' is 2147483647, not below 2147483647",
+            ),
+            (
+                word(Input::Block, 5),
+                "word 5 of the message, block or word is 2147483647, not below 2147483647",
+            ),
+            (
+                word(Input::R, 0),
+                "word 0 of r or the challenge is 2147483647, not below 2147483647",
+            ),
+            (
+                word(Input::Opening, 40),
+                "word 40 of the opening is 2147483647, not below 2147483647",
+            ),
+            (Refusal::BaseRow { index: 3 }, "word 3 of the base row is 0"),
+            (
+                Refusal::Diagonals { index: 17 },
+                "word 17 of T and of T' are equal",
+            ),
+        ] {
+            assert_eq!(refusal.to_string(), sentence);
+        }
+        let largest = Refusal::Word {
+            input: Input::Y,
+            index: 0,
+            word: u32::MAX,
+        };
+        let sentence = "word 0 of y is 4294967295, not below 2147483647";
+        assert_eq!(largest.to_string(), sentence);
     }
 }

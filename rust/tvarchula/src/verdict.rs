@@ -5,7 +5,7 @@ use core::fmt;
 
 use tvarchula_sys::{self as sys, tv_answer};
 
-use crate::refusal::{done, Refusal};
+use crate::refusal::{done, Lent, Refusal};
 
 /// The verdict on an opening that is well formed.
 #[derive(Clone, Copy, PartialEq, Eq, Hash, Debug)]
@@ -154,36 +154,62 @@ impl Error for Failure {}
 
 impl Error for VerifyError {}
 
-/// The verdict from what the verifier answers. Only 0 accepts; a number that is neither a failure
-/// nor a refusal known here is refused as unknown.
-pub(crate) fn verdict_of(answer: tv_answer) -> Result<Verdict, Refusal> {
-    Ok(Verdict::Rejected(match answer.number {
-        sys::TV_FAILED_SUM => Failure::Sum(answer.first),
-        sys::TV_FAILED_FINAL => Failure::Final,
-        sys::TV_FAILED_BASE => Failure::Base(answer.first),
-        sys::TV_FAILED_FOLD => Failure::Fold {
-            query: answer.first,
-            level: answer.second,
+/// The verdict from what the verifier answers of a call. Only 0 accepts; a number that is neither a
+/// failure nor a refusal known here, or that stands with a place it does not name, is refused as unknown.
+pub(crate) fn verdict_of(answer: tv_answer, lent: Lent<'_>) -> Result<Verdict, Refusal> {
+    Ok(Verdict::Rejected(
+        match (answer.number, answer.first, answer.second) {
+            (sys::TV_FAILED_SUM, i, 0) => Failure::Sum(i),
+            (sys::TV_FAILED_FINAL, 0, 0) => Failure::Final,
+            (sys::TV_FAILED_BASE, j, 0) => Failure::Base(j),
+            (sys::TV_FAILED_FOLD, query, level) => Failure::Fold { query, level },
+            _ => return done(answer, lent).map(|()| Verdict::Accepted),
         },
-        number => return done(number).map(|()| Verdict::Accepted),
-    }))
+    ))
 }
 
 #[cfg(test)]
 mod tests {
     use super::*;
 
+    use crate::input::Input;
+
+    fn answered(number: u32, first: u32, second: u32) -> Result<Verdict, Refusal> {
+        let answer = tv_answer {
+            number,
+            first,
+            second,
+        };
+        verdict_of(answer, &[(Input::Y, &[u32::MAX])])
+    }
+
     #[test]
     fn only_0_is_accepted() {
         for number in (0..100).chain([u32::MAX]) {
-            let verdict = verdict_of(tv_answer {
-                number,
-                first: 1,
-                second: 2,
-            });
-            assert_eq!(verdict == Ok(Verdict::Accepted), number == 0);
-            let found = verdict.map_or_else(Refusal::number, Verdict::number);
-            assert_eq!(found, number);
+            for (first, second) in [(0, 0), (1, 0), (0, 1), (1, 2)] {
+                let verdict = answered(number, first, second);
+                let accepted = (number, first, second) == (0, 0, 0);
+                assert_eq!(verdict == Ok(Verdict::Accepted), accepted);
+                let found = verdict.map_or_else(Refusal::number, Verdict::number);
+                assert_eq!(found, number);
+            }
+        }
+    }
+
+    #[test]
+    fn places() {
+        let rejected = |failure| Ok(Verdict::Rejected(failure));
+        assert_eq!(answered(20, 3, 0), rejected(Failure::Sum(3)));
+        assert_eq!(answered(21, 0, 0), rejected(Failure::Final));
+        assert_eq!(answered(22, 5, 0), rejected(Failure::Base(5)));
+        let fold = Failure::Fold { query: 7, level: 2 };
+        assert_eq!(answered(23, 7, 2), rejected(fold));
+        let (input, index, word) = (Input::Y, 0, u32::MAX);
+        let refused = Refusal::Word { input, index, word };
+        assert_eq!(answered(4, 0, 6), Err(refused));
+        for (number, first, second) in [(20, 3, 1), (21, 1, 0), (22, 5, 1), (4, 1, 6), (11, 1, 0)] {
+            let unknown = Refusal::Unknown { number, kind: 0 };
+            assert_eq!(answered(number, first, second), Err(unknown));
         }
     }
 }

@@ -68,9 +68,15 @@ fn a_refusal_is_an_error_too() {
         y: MODULUS,
         ..CLAIM
     };
-    let refusal = VerifyError::Refused(Refusal::Word);
+    let refusal = VerifyError::Refused(Refusal::Word {
+        input: Input::Y,
+        index: 0,
+        word: MODULUS,
+    });
     assert_eq!(refused(no_residue), refusal);
     assert_eq!(refusal.number(), 4);
+    let sentence = "refused: word 0 of y is 2147483647, not below 2147483647";
+    assert_eq!(refusal.to_string(), sentence);
 }
 
 #[test]

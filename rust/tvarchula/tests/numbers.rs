@@ -9,6 +9,11 @@ const DEPTH_0: Code<'static> = Code::new(0, 2, &[1, 1], &[], &[]);
 const BLOCK: [u32; 4] = [19, 26, 2_147_483_638, 2_147_483_631];
 const OPENING: [u32; 6] = [2_147_483_637, 36, 152, 33, 33, 33];
 
+/// 4, at the word of an input.
+fn high(input: Input, index: usize, word: u32) -> Refusal {
+    Refusal::Word { input, index, word }
+}
+
 /// What a job left in buffers that held 77 everywhere.
 type Left<const N: usize, const W: usize> = (Result<(), Refusal>, [u32; N], [u32; W]);
 
@@ -36,7 +41,10 @@ fn clearances_and_tables() {
     assert_eq!(read_clearance(farthest), Ok(Reading::Free(farthest)));
     let overlap = Reading::Overlap(farthest);
     assert_eq!(read_clearance(farthest + 1), Ok(overlap));
-    assert_eq!(read_clearance(P), Err(Refusal::Word));
+    for word in [P, P + 1, u32::MAX] {
+        let refused = Err(high(Input::Block, 0, word));
+        assert_eq!(read_clearance(word), refused);
+    }
 
     let (mut table, mut work) = ([77; 4], [77; 4]);
     let done = coefficients_to_table(&[3, 2, 1, 4], &mut table, &mut work);
@@ -44,16 +52,20 @@ fn clearances_and_tables() {
     let (mut table, mut work) = ([77], [77]);
     let done = coefficients_to_table(&[1_073_741_824], &mut table, &mut work);
     assert_eq!((done, table, work), (Ok(()), [-MAX_CLEARANCE], [0]));
-    let (mut table, mut work) = ([77], [77]);
-    let refused = coefficients_to_table(&[P], &mut table, &mut work);
-    assert_eq!((refused, table, work), (Err(Refusal::Word), [77], [77]));
+    let (mut table, mut work) = ([77; 4], [77; 4]);
+    let refused = coefficients_to_table(&[3, 2, P, P + 4], &mut table, &mut work);
+    let due = Err(high(Input::Block, 2, P));
+    assert_eq!((refused, table, work), (due, [77; 4], [77; 4]));
 }
 
 #[test]
 fn evaluation() {
     assert_eq!(evaluate(1, &[5, 7], &[3]), Ok(26));
     assert_eq!(evaluate(1, &[5, 7], &[P - 1]), Ok(P - 2));
-    assert_eq!(evaluate(1, &[5, 7], &[P]), Err(Refusal::Word));
+    let z = Err(high(Input::Z, 0, P));
+    assert_eq!(evaluate(1, &[5, 7], &[P]), z);
+    let message = Err(high(Input::Block, 1, u32::MAX));
+    assert_eq!(evaluate(1, &[5, u32::MAX], &[P]), message);
     assert_eq!(evaluate(1, &[5, 7], &[]), Err(Refusal::Length));
     assert_eq!(evaluate(17, &[5, 7], &[3]), Err(Refusal::Length));
     assert_eq!(evaluate(20, &[5, 7], &[3]), Err(Refusal::Length));
@@ -77,6 +89,14 @@ fn folded(level: u32) -> Left<2, 0> {
     (done, folded, [])
 }
 
+/// The refusal of a fold from level 1.
+fn unfolded(t: &[u32], t2: &[u32], block: &[u32], challenge: u32) -> Refusal {
+    let mut folded = [77; 2];
+    let refused = fold(1, 2, t, t2, block, challenge, &mut folded);
+    assert_eq!(folded, [77; 2]);
+    refused.unwrap_err()
+}
+
 #[test]
 fn code() {
     assert_eq!(encoded(&CODE, &[5, 7]), (Ok(()), BLOCK, []));
@@ -86,13 +106,23 @@ fn code() {
     let refused = (Err(Refusal::NoCodeword), [77; 2], [0; 4]);
     assert_eq!(decoded(damaged), refused);
     let no_residue = [BLOCK[0], BLOCK[1], BLOCK[2], P];
-    let refused = (Err(Refusal::Word), [77; 2], [77; 4]);
+    let refused = (Err(high(Input::Block, 3, P)), [77; 2], [77; 4]);
     assert_eq!(decoded(no_residue), refused);
     assert_eq!(folded(1), (Ok(()), [33, 33], []));
     for level in [0, 21, u32::MAX] {
         assert_eq!(folded(level), (Err(Refusal::Depth), [77; 2], []));
     }
     assert_eq!(folded(20), (Err(Refusal::Length), [77; 2], []));
+
+    let refused = unfolded(CODE.t, CODE.t2, &BLOCK, P);
+    assert_eq!(refused, high(Input::R, 0, P));
+    let refused = unfolded(CODE.t, CODE.t2, &[19, 26, P, 5], P);
+    assert_eq!(refused, high(Input::Block, 2, P));
+    let refused = unfolded(CODE.t, &[5, P + 1], &[P; 4], P);
+    assert_eq!(refused, high(Input::T2, 1, P + 1));
+    assert_eq!(unfolded(&[P; 2], &[P; 2], &[P; 4], P), high(Input::T, 0, P));
+    let refused = unfolded(CODE.t, &[5, 3], &BLOCK, 4);
+    assert_eq!(refused, Refusal::Diagonals { index: 1 });
 }
 
 #[test]
@@ -109,18 +139,120 @@ fn refusals() {
     assert_eq!(refused(|code| code.rate = 1), Refusal::Rate);
     assert_eq!(refused(|code| code.rate = 17), Refusal::Rate);
     assert_eq!(refused(|code| code.g = &[1]), Refusal::Length);
-    assert_eq!(refused(|code| code.g = &[1, P]), Refusal::Word);
+    assert_eq!(refused(|code| code.g = &[1, P]), high(Input::G, 1, P));
+    assert_eq!(refused(|code| code.t = &[P, P]), high(Input::T, 0, P));
+    let g_and_t2 = |code: &mut Code<'_>| (code.g, code.t2) = (&[0, P + 2], &[P, 5]);
+    assert_eq!(refused(g_and_t2), high(Input::G, 1, P + 2));
     let pair = |code: &mut Code<'_>| code.t2 = &[2_147_483_645, 3];
-    assert_eq!(refused(pair), Refusal::Diagonals);
+    assert_eq!(refused(pair), Refusal::Diagonals { index: 1 });
+    assert_eq!(
+        refused(|code| code.t2 = &[2, 3]),
+        Refusal::Diagonals { index: 0 }
+    );
     let zero_and_pair = |code: &mut Code<'_>| (code.g, code.t2) = (&[1, 0], &[5, 3]);
-    assert_eq!(refused(zero_and_pair), Refusal::BaseRow);
-    for number in (1..=9).chain([11]) {
-        let refusal = Refusal::from_number(number).unwrap();
+    assert_eq!(refused(zero_and_pair), Refusal::BaseRow { index: 1 });
+    assert_eq!(
+        refused(|code| code.g = &[0, 0]),
+        Refusal::BaseRow { index: 0 }
+    );
+    let numbers = [
+        (Refusal::Depth, 1),
+        (Refusal::Rate, 2),
+        (Refusal::Length, 3),
+        (high(Input::Z, 5, P), 4),
+        (Refusal::BaseRow { index: 5 }, 5),
+        (Refusal::Diagonals { index: 5 }, 6),
+        (Refusal::Queries, 7),
+        (Refusal::NoCodeword, 8),
+        (Refusal::Clearance, 9),
+        (Refusal::Repeated, 11),
+    ];
+    for (refusal, number) in numbers {
         assert_eq!(refusal.number(), number);
         assert!(!refusal.to_string().is_empty());
     }
-    assert_eq!(Refusal::from_number(10), None);
-    assert_eq!(Refusal::from_number(12), None);
+}
+
+/// At depth 2 level 1 of the diagonals begins at word 2: an index counts over all levels.
+#[test]
+fn places_at_depth_2() {
+    let code = Code::new(2, 2, &[1, 1], &[2, 3, 4, 5, 6, 7], &[8, 9, 10, 11, 12, 13]);
+    let message = [5, 7, 11, 13];
+    let (t, t2) = ([2, 3, 4, 5, P, 7], [8, 9, 10, 5, 6, 13]);
+    let refused = |code: Code<'_>| {
+        let (result, block, []) = encoded::<8>(&code, &message);
+        assert_eq!(block, [77; 8]);
+        result.unwrap_err()
+    };
+    let mut other = code;
+    other.t2 = &t2;
+    let refusal = refused(other);
+    assert_eq!(refusal, Refusal::Diagonals { index: 3 });
+    assert_eq!(refusal.to_string(), "word 3 of T and of T' are equal");
+    other.g = &[1, 0];
+    let refusal = refused(other);
+    assert_eq!(refusal, Refusal::BaseRow { index: 1 });
+    assert_eq!(refusal.to_string(), "word 1 of the base row is 0");
+    other.t = &t;
+    let refusal = refused(other);
+    assert_eq!(refusal, high(Input::T, 4, P));
+    let sentence = "word 4 of T is 2147483647, not below 2147483647";
+    assert_eq!(refusal.to_string(), sentence);
+
+    let opened = |z: &[u32], r: &[u32], message: &[u32]| {
+        let (mut opening, mut work) = ([77; 13], [77; 8]);
+        let question = Question { z, r };
+        let refused = write_opening(&code, message, &question, &mut opening, &mut work);
+        assert_eq!((opening, work), ([77; 13], [77; 8]));
+        refused.unwrap_err()
+    };
+    assert_eq!(opened(&[3, 4], &[5, P], &message), high(Input::R, 1, P));
+    assert_eq!(opened(&[P, P], &[P, P], &message), high(Input::Z, 0, P));
+    let refused = opened(&[P, P], &[5, 6], &[5, 7, P + 3, P]);
+    assert_eq!(refused, high(Input::Block, 2, P + 3));
+}
+
+/// All that a verifier is lent is spoiled, then put right, input by input in the order of refusals.
+#[test]
+fn places_of_a_claim() {
+    let (g, t, t2) = ([1, P], [P + 1, 3], [2_147_483_645, P + 2]);
+    let (block, opening) = ([19, 26, P + 3, P], [36, 36, 36, 36, P + 7, P]);
+    let (z, y, r) = ([P + 4], P + 5, [P + 6]);
+    let mut code = Code::new(1, 2, &g, &t, &t2);
+    // A list that is refused too, after all of these.
+    let mut claim = Claim {
+        z: &z,
+        y,
+        r: &r,
+        queries: &[P],
+    };
+    let refused = |code: &Code<'_>, block: &[u32], claim: &Claim<'_>, opening: &[u32]| {
+        verdict(code, block, claim, opening).unwrap_err()
+    };
+    let found = refused(&code, &block, &claim, &opening);
+    assert_eq!(found, high(Input::G, 1, P));
+    code.g = CODE.g;
+    let found = refused(&code, &block, &claim, &opening);
+    assert_eq!(found, high(Input::T, 0, P + 1));
+    code.t = CODE.t;
+    let found = refused(&code, &block, &claim, &opening);
+    assert_eq!(found, high(Input::T2, 1, P + 2));
+    code.t2 = CODE.t2;
+    let found = refused(&code, &block, &claim, &opening);
+    assert_eq!(found, high(Input::Block, 2, P + 3));
+    let found = refused(&code, &BLOCK, &claim, &opening);
+    assert_eq!(found, high(Input::Z, 0, P + 4));
+    claim.z = &[3];
+    let found = refused(&code, &BLOCK, &claim, &opening);
+    assert_eq!(found, high(Input::Y, 0, P + 5));
+    claim.y = 26;
+    let found = refused(&code, &BLOCK, &claim, &opening);
+    assert_eq!(found, high(Input::R, 0, P + 6));
+    claim.r = &[4];
+    let found = refused(&code, &BLOCK, &claim, &opening);
+    assert_eq!(found, high(Input::Opening, 4, P + 7));
+    let found = refused(&code, &BLOCK, &claim, &OPENING);
+    assert_eq!(found, Refusal::Queries);
 }
 
 /// An opening of 5 + 7 X at z under r, and the value.
@@ -200,11 +332,12 @@ fn repeated_queries() {
         verdict(code, block, &claim, &OPENING).unwrap_err()
     };
     assert_eq!(refused(&CODE, &BLOCK), Refusal::Repeated);
-    assert_eq!(refused(&CODE, &[19, 26, P, 5]), Refusal::Word);
+    let word = high(Input::Block, 2, P);
+    assert_eq!(refused(&CODE, &[19, 26, P, 5]), word);
     assert_eq!(refused(&CODE, &BLOCK[1..]), Refusal::Length);
     let mut zero = CODE;
     zero.g = &[1, 0];
-    assert_eq!(refused(&zero, &BLOCK), Refusal::BaseRow);
+    assert_eq!(refused(&zero, &BLOCK), Refusal::BaseRow { index: 1 });
 }
 
 #[test]

@@ -29,7 +29,12 @@ fn refusals() {
         assert_eq!(table_to_coefficients_vec(wrong), Err(Refusal::Depth));
     }
     assert_eq!(coefficients_to_table_vec(&[1, 2, 3]), Err(Refusal::Depth));
-    assert_eq!(coefficients_to_table_vec(&[MODULUS]), Err(Refusal::Word));
+    let refused = Refusal::Word {
+        input: Input::Block,
+        index: 1,
+        word: MODULUS,
+    };
+    assert_eq!(coefficients_to_table_vec(&[1, MODULUS]), Err(refused));
     for depth in [21, 64, u32::MAX] {
         let mut code = CODE;
         code.depth = depth;

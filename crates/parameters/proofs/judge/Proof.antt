@@ -1,41 +1,24 @@
-use Rattle.parameters.specs.ParameterLaws.{judged}
+use mathlib.Core.Path.{sym, _∙_}
+use Rattle.residue.specs.Chosen.{chosen}
+use Rattle.parameters.specs.ParameterLaws.{flags-pass}
 use borrow.Author.Needs.{needs}
 use Rattle.parameters.proofs.judge.Statement.{statement}
 use Rattle.parameters.proofs.judge.Tie as tie
 
-depth-ok-requires : tie.Need-depth-ok-requires
-depth-ok-requires c κs = search needs
-
-rate-ok-requires : tie.Need-rate-ok-requires
-rate-ok-requires c κs = search needs
-
-row-ok-requires : tie.Need-row-ok-requires
-row-ok-requires c κs = search needs
-
-require-requires : tie.Need-require-requires
-require-requires c κs = search needs
-
-require-requires-2 : tie.Need-require-requires-2
-require-requires-2 c κs = search needs
-
-require-requires-3 : tie.Need-require-requires-3
-require-requires-3 c κs = search needs
-
-require-requires-4 : tie.Need-require-requires-4
-require-requires-4 c κs = search needs
-
-require-requires-5 : tie.Need-require-requires-5
-require-requires-5 c κs = search needs
-
-require-requires-6 : tie.Need-require-requires-6
-require-requires-6 c κs = search needs
+nothing-due-requires : tie.Need-nothing-due-requires
+nothing-due-requires c κs = search needs
 
 returns : tie.Need-returns
 returns c =
     let a = c .before .before .before .before .before .before .before .before .before .before .args in
-    judged (a .depth) (a .rate) (a .g .now) (a .lengths) (a .words) (a .apart)
-    (c .before .before .before .before .before .before .before .before .depth-ok .ensures) (c .before .before .before .before .before .before .before .rate-ok .ensures) (c .before .before .before .before .before .before .row-ok .ensures)
-    (c .before .before .before .before .before .require .ensures) (c .before .before .before .before .require2 .ensures) (c .before .before .before .require3 .ensures) (c .before .before .require4 .ensures) (c .before .require5 .ensures) (c .require6 .ensures)
+    flags-pass (chosen (a .field)) (a .depth) (a .rate) (a .g .now) (a .t .now) (a .t2 .now) (a .block .now) (a .z .now) (a .y .now) (a .r .now) (a .opening .now) (a .lengths) (a .words) (a .apart)
+    (sym (c .before .nothing-due .ensures) ∙ c .if1 .taken)
+
+first-due-requires : tie.Need-first-due-requires
+first-due-requires c κs = search needs
+
+returns-2 : tie.Need-returns-2
+returns-2 c = c .first-due .ensures
 
 pub judge-spec : {M : Type 1} → statement M
-judge-spec = tie.close (tie.spec depth-ok-requires rate-ok-requires row-ok-requires require-requires require-requires-2 require-requires-3 require-requires-4 require-requires-5 require-requires-6 returns)
+judge-spec = tie.close (tie.spec nothing-due-requires returns first-due-requires returns-2)

@@ -2,7 +2,7 @@ use mathlib.Core.Path.{sym, ap, _∙_}
 use Rattle.algebra.specs.Words.{𝔽₁}
 use Rattle.job.specs.Outcome.{done, outcome}
 use Rattle.job.specs.OutcomeLaws.{after-refused, after-done}
-use Rattle.polynomial.proofs.Values.{evaluates}
+use Rattle.polynomial.proofs.Judged.{evaluates}
 use borrow.Author.Needs.{needs}
 use Rattle.polynomial.proofs.evaluate.Statement.{statement}
 use Rattle.polynomial.proofs.evaluate.Tie as tie

@@ -3,7 +3,7 @@
 use super::judge;
 use super::residue::{plus, HALF, P};
 use super::transform::transform;
-use crate::answer::Refusal;
+use crate::answer::{Input, Refusal};
 
 /// Writes the table into `clearances` and leaves zeros in `work`.
 pub fn coefficients_to_table(
@@ -14,7 +14,8 @@ pub fn coefficients_to_table(
     let due = message.len();
     judge::power(due)?;
     judge::lengths(&[(clearances.len(), due), (work.len(), due)])?;
-    judge::words(&[message])?;
+    let read = [(Input::Block, message)];
+    judge::words(judge::below(&read), &read)?;
     work.copy_from_slice(message);
     transform(plus, work);
     for (x, word) in clearances.iter_mut().zip(work) {

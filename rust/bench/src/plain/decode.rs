@@ -4,7 +4,7 @@ use super::encode::{encode_words, scale};
 use super::invert::Invert;
 use super::judge;
 use super::residue::{inverse, minus, plus_product, times, Reduce};
-use crate::answer::{Code, Refusal};
+use crate::answer::{Code, Input, Refusal};
 use crate::sizes::Sizes;
 
 /// Writes the message whose codeword `block` is. `work` holds zeros after success and refusal 8.
@@ -19,7 +19,7 @@ pub fn decode<R: Reduce, I: Invert>(
         let due = sizes.block(sizes.depth);
         [(found.0, due), (found.1, sizes.message()), (found.2, due)]
     };
-    judge::code(code, lengths, &[block])?;
+    judge::code(code, lengths, &[(Input::Block, block)])?;
     let settled = settle::<R, I>(code, block, message, work);
     work.fill(0);
     settled

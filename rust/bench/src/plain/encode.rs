@@ -2,7 +2,7 @@
 
 use super::judge;
 use super::residue::{plus_product, times, Reduce};
-use crate::answer::{Code, Refusal};
+use crate::answer::{Code, Input, Refusal};
 
 /// Writes the codeword of `message` into `block`.
 pub fn encode<R: Reduce>(
@@ -19,7 +19,7 @@ pub fn encode<R: Reduce>(
                 (found.1, sizes.block(sizes.depth)),
             ]
         },
-        &[message],
+        &[(Input::Block, message)],
     )?;
     encode_words::<R>(code, message, block);
     Ok(())

@@ -2,13 +2,14 @@
 
 use super::judge;
 use super::residue::{plus, plus_product, times, Reduce};
-use crate::answer::Refusal;
+use crate::answer::{Input, Refusal};
 
 /// The value at `z`, with word i of `z` for variable i.
 pub fn evaluate<R: Reduce>(depth: u32, message: &[u32], z: &[u32]) -> Result<u32, Refusal> {
     let depth = judge::depth(depth)?;
     judge::lengths(&[(message.len(), 1 << depth), (z.len(), depth)])?;
-    judge::words(&[message, z])?;
+    let read = [(Input::Block, message), (Input::Z, z)];
+    judge::words(judge::below(&read), &read)?;
     Ok(value::<R>(message, z))
 }
 

@@ -3,7 +3,8 @@
 use super::invert::Invert;
 use super::judge;
 use super::residue::{minus, plus_product, times, Reduce};
-use crate::answer::Refusal;
+use super::scan::pair;
+use crate::answer::{Input, Refusal};
 use crate::sizes::{Sizes, MAX_DEPTH};
 
 /// What folding is lent, besides its result.
@@ -52,9 +53,15 @@ fn judge(lent: &Folding<'_>, folded: usize) -> Result<(), Refusal> {
     let t = [(lent.t.len(), lower), (lent.t2.len(), lower)];
     judge::lengths(&t)?;
     judge::lengths(&[(lent.block.len(), upper), (folded, lower)])?;
-    let apart = judge::diagonals(lent.t, lent.t2)?;
-    judge::words(&[lent.block, &[lent.challenge]])?;
-    judge::ensure(apart, Refusal::Diagonals)
+    let (below, apart) = pair(lent.t, lent.t2);
+    let read: [judge::Read<'_>; 4] = [
+        (Input::T, lent.t),
+        (Input::T2, lent.t2),
+        (Input::Block, lent.block),
+        (Input::R, &[lent.challenge]),
+    ];
+    judge::words(below && judge::below(&read[2..]), &read)?;
+    judge::diagonals(apart, lent.t, lent.t2)
 }
 
 /// The value at the challenge a of the line through (t, u) and (t2, v), where s, the inverse of

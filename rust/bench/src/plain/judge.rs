@@ -1,7 +1,7 @@
 //! What the jobs judge, in the order of the refusals.
 
-use super::scan::{all_below, none_zero, pair};
-use crate::answer::{Code, Refusal};
+use super::scan::{all_below, first_equal, first_high, first_zero, none_zero, pair};
+use crate::answer::{Code, Input, Refusal};
 use crate::sizes::{Sizes, MAX_DEPTH};
 
 /// `Ok` where the condition holds.
@@ -37,25 +37,49 @@ pub fn lengths(found_due: &[(usize, usize)]) -> Result<(), Refusal> {
     ensure(exact, Refusal::Length)
 }
 
-/// Refusal 4.
-pub fn words(slices: &[&[u32]]) -> Result<(), Refusal> {
-    let low = slices.iter().all(|slice| all_below(slice));
-    ensure(low, Refusal::Word)
+/// A slice of words that is read, and the input that it is.
+pub type Read<'a> = (Input, &'a [u32]);
+
+/// Whether refusal 4 is not due.
+pub fn below(read: &[Read<'_>]) -> bool {
+    read.iter().all(|(_, words)| all_below(words))
 }
 
-/// Refusal 4 of two diagonals of the same length. Whether 6 is due comes back: it is judged last.
-pub fn diagonals(t: &[u32], t2: &[u32]) -> Result<bool, Refusal> {
-    let (below, apart) = pair(t, t2);
-    ensure(below, Refusal::Word)?;
-    Ok(apart)
+/// Refusal 4, by the flag of a scan of all words: only where one is too large the first is looked for.
+pub fn words(below: bool, read: &[Read<'_>]) -> Result<(), Refusal> {
+    if below {
+        return Ok(());
+    }
+    let first = |&(input, words): &Read<'_>| Some(Refusal::Word(input, first_high(words)?));
+    refused(read.iter().find_map(first))
+}
+
+/// Refusal 5, by the flag of a scan.
+fn row(g: &[u32]) -> Result<(), Refusal> {
+    if none_zero(g) {
+        return Ok(());
+    }
+    refused(first_zero(g).map(Refusal::BaseRow))
+}
+
+/// Refusal 6, by the flag of the same scan.
+pub fn diagonals(apart: bool, t: &[u32], t2: &[u32]) -> Result<(), Refusal> {
+    if apart {
+        return Ok(());
+    }
+    refused(first_equal(t, t2).map(Refusal::Diagonals))
+}
+
+fn refused(found: Option<Refusal>) -> Result<(), Refusal> {
+    found.map_or(Ok(()), Err)
 }
 
 /// Refusals 1 to 6 of a call that lends a code: `others` gives the lengths of all other slices,
-/// found and due, and `read` holds all other words that are read.
+/// found and due, and `read` holds all other words that are read, in the order of inputs.
 pub fn code<const N: usize>(
     code: &Code<'_>,
     others: impl FnOnce(Sizes) -> [(usize, usize); N],
-    read: &[&[u32]],
+    read: &[Read<'_>],
 ) -> Result<Sizes, Refusal> {
     let sizes = Sizes {
         depth: depth(code.depth)?,
@@ -68,10 +92,13 @@ pub fn code<const N: usize>(
         (code.t2.len(), due),
     ])?;
     lengths(&others(sizes))?;
-    words(&[code.g])?;
-    let apart = diagonals(code.t, code.t2)?;
-    words(read)?;
-    ensure(none_zero(code.g), Refusal::BaseRow)?;
-    ensure(apart, Refusal::Diagonals)?;
+    let Code { g, t, t2, .. } = *code;
+    let in_row = all_below(g);
+    let (in_pairs, apart) = pair(t, t2);
+    let all = in_row & in_pairs && below(read);
+    words(all, &[(Input::G, g), (Input::T, t), (Input::T2, t2)])?;
+    words(all, read)?;
+    row(g)?;
+    diagonals(apart, t, t2)?;
     Ok(sizes)
 }

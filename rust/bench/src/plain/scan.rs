@@ -1,15 +1,11 @@
-//! Tests of whole slices. None of them leaves early, so that the loops vectorise.
+//! Tests of whole slices. None of the tests leaves early, so that the loops vectorise; a search, which a
+//! call makes only once it refuses, stops at what it finds.
 
 use super::residue::P;
 
 /// Whether each word is below p.
 pub fn all_below(s: &[u32]) -> bool {
     s.iter().fold(true, |ok, &w| ok & (w < P))
-}
-
-/// Whether no word is 0.
-pub fn none_zero(s: &[u32]) -> bool {
-    s.iter().fold(true, |ok, &w| ok & (w != 0))
 }
 
 /// One pass over two slices of the same length: whether each word of both is below p, and whether
@@ -21,4 +17,24 @@ pub fn pair(s: &[u32], t: &[u32]) -> (bool, bool) {
         equal |= a == b;
     }
     (!high, !equal)
+}
+
+/// Whether no word is 0.
+pub fn none_zero(s: &[u32]) -> bool {
+    s.iter().fold(true, |ok, &w| ok & (w != 0))
+}
+
+/// The first word that is not below p.
+pub fn first_high(s: &[u32]) -> Option<usize> {
+    s.iter().position(|&w| w >= P)
+}
+
+/// The first word that is 0.
+pub fn first_zero(s: &[u32]) -> Option<usize> {
+    s.iter().position(|&w| w == 0)
+}
+
+/// The first place where both have the same word.
+pub fn first_equal(s: &[u32], t: &[u32]) -> Option<usize> {
+    s.iter().zip(t).position(|(a, b)| a == b)
 }

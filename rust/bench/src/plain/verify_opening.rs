@@ -3,7 +3,7 @@
 use super::judge;
 use super::residue::{minus, plus, plus_product, times, Reduce, HALF};
 use super::write_opening::eq_factor;
-use crate::answer::{Answer, Code, Failure, Refusal};
+use crate::answer::{Answer, Code, Failure, Input, Refusal};
 use crate::sizes::{Sizes, MAX_QUERIES};
 
 /// What verifying is lent, besides the code.
@@ -58,7 +58,14 @@ fn judge(code: &Code<'_>, lent: &Opened<'_>) -> Result<Sizes, Refusal> {
             (opening.len(), sizes.opening()),
         ]
     };
-    let sizes = judge::code(code, lengths, &[block, z, &[lent.y], r, opening])?;
+    let read: [judge::Read<'_>; 5] = [
+        (Input::Block, block),
+        (Input::Z, z),
+        (Input::Y, &[lent.y]),
+        (Input::R, r),
+        (Input::Opening, opening),
+    ];
+    let sizes = judge::code(code, lengths, &read)?;
     judge::ensure(queries_ok(sizes, lent.queries), Refusal::Queries)?;
     judge::ensure(different(lent.queries), Refusal::Repeated)?;
     Ok(sizes)

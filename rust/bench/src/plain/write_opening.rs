@@ -6,7 +6,7 @@ use super::fold::fold_words;
 use super::invert::SixteenChains;
 use super::judge;
 use super::residue::{minus, plus_product, times, Reduce};
-use crate::answer::{Code, Refusal};
+use crate::answer::{Code, Input, Refusal};
 use crate::sizes::Sizes;
 
 /// The blocks below this level are so short that encoding takes less time than a fold with its one
@@ -29,7 +29,8 @@ pub fn write_opening<R: Reduce>(
         let due = [n, d, d, sizes.opening(), 2 * n];
         std::array::from_fn::<_, 5, _>(|k| (found[k], due[k]))
     };
-    let sizes = judge::code(code, lengths, &[message, z, r])?;
+    let read = [(Input::Block, message), (Input::Z, z), (Input::R, r)];
+    let sizes = judge::code(code, lengths, &read)?;
     let claimed = value::<R>(message, z);
     work[..message.len()].copy_from_slice(message);
     rounds::<R>(code, sizes, z, r, opening, work);

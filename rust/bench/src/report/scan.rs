@@ -4,21 +4,19 @@ use super::measure::{least, measure, median, ratios, Plan, Samples, Side};
 use super::ratio;
 use super::table::Table;
 use std::hint::black_box;
-use tvarchula_bench::plain::P;
 use tvarchula_bench::{call, Buffers, Inputs, Job, Library, Plain};
 
 /// What stands above the table.
 pub const ABOUT: &str = "\
-`tv_verify_opening` with an opening whose last word is the modulus: it tests each word of each slice once,
-then refuses with 4. `sum` is plain Rust that adds the same words and tests nothing. Speeds are of the median, and in
+`tv_verify_opening` with no query where one is due: it tests each word of each slice once, then refuses
+with 7. `sum` is plain Rust that adds the same words and tests nothing. Speeds are of the median, and in
 brackets of the least time.";
 
-/// Verifying with an opening whose last word is p is refused with 4 once every word of every slice
-/// has been read: nothing is computed. The query list is empty, since no scan of it comes first.
+/// Verifying with no query is refused with 7 once every word of every slice has been tested: nothing is
+/// computed. A word too large would be looked for once more, for its place.
 fn refused(inputs: &Inputs) -> Inputs {
     let mut inputs = inputs.clone();
     inputs.queries.clear();
-    *inputs.opening.last_mut().expect("an opening has words") = P;
     inputs
 }
 
@@ -69,11 +67,11 @@ pub fn table(lent: &[Inputs], scans: &[Scans]) -> Table {
 fn scanned(plan: Plan, inputs: &Inputs) -> Scans {
     let library: Side<'_> = &|buffers: &mut Buffers| {
         let answer = call::<Library>(Job::Verify, black_box(inputs), buffers);
-        assert_eq!(answer.number, 4);
+        assert_eq!(answer.number, 7);
     };
     let plain: Side<'_> = &|buffers: &mut Buffers| {
         let answer = call::<Plain>(Job::Verify, black_box(inputs), buffers);
-        assert_eq!(answer.number, 4);
+        assert_eq!(answer.number, 7);
     };
     let sum: Side<'_> = &|_: &mut Buffers| {
         black_box(read(black_box(inputs)));

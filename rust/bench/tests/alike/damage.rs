@@ -43,10 +43,25 @@ pub const ALL: &[Damage] = &[
     |i, _| set(i.r.last_mut(), P),
     |i, _| set(i.opening.last_mut(), P),
     |i, _| i.challenge = P,
+    // The same at other places, and at two
+    |i, _| set(i.g.first_mut(), P),
+    |i, _| set(middle(&mut i.t), P),
+    |i, _| set(middle(&mut i.t2), P),
+    |i, _| set(middle(&mut i.fold_t), P),
+    |i, _| set(middle(&mut i.message), P),
+    |i, _| set(middle(&mut i.block), P),
+    |i, _| set(i.z.first_mut(), u32::MAX),
+    |i, _| set(i.r.first_mut(), P),
+    |i, _| behind_middle(&mut i.opening).fill(P),
+    |i, _| behind_middle(&mut i.block).fill(P),
     // 5, 6, 7 and 11
     |i, _| set(i.g.last_mut(), 0),
+    |i, _| behind_middle(&mut i.g).fill(0),
     |i, _| equal_pair(&i.t, &mut i.t2),
     |i, _| equal_pair(&i.fold_t, &mut i.fold_t2),
+    |i, _| i.t2.clone_from(&i.t),
+    |i, _| equal_pairs(&mut i.t, &mut i.t2),
+    |i, _| equal_pairs(&mut i.fold_t, &mut i.fold_t2),
     |i, _| i.queries.clear(),
     |i, _| i.queries.resize(MAX_QUERIES, 0),
     |i, _| i.queries.resize(MAX_QUERIES + 1, 0),
@@ -93,6 +108,12 @@ fn equal_pair(t: &[u32], t2: &mut [u32]) {
     }
 }
 
+/// All places from the middle one on.
+fn equal_pairs(t: &mut [u32], t2: &mut [u32]) {
+    let (t, t2) = (behind_middle(t), behind_middle(t2));
+    t2.iter_mut().zip(t).for_each(|(b, a)| *b = *a);
+}
+
 /// The last place like the first, where there are two.
 fn first_again(queries: &mut [u32]) {
     if let [first, .., last] = queries {
@@ -115,6 +136,10 @@ fn queried(inputs: &mut Inputs) {
 }
 
 fn middle(slice: &mut [u32]) -> Option<&mut u32> {
+    behind_middle(slice).first_mut()
+}
+
+fn behind_middle(slice: &mut [u32]) -> &mut [u32] {
     let half = slice.len() / 2;
-    slice.get_mut(half)
+    &mut slice[half..]
 }

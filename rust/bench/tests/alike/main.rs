@@ -1,5 +1,5 @@
-//! Plain Rust and the library give the same answer and write the same words, whatever is lent: what
-//! the program times is the same work.
+//! Plain Rust and the library give the same answer, places included, and write the same words, whatever
+//! is lent: what the program times is the same work.
 
 mod damage;
 
@@ -18,9 +18,16 @@ const PLAIN: [Call; 4] = [
 
 /// The numbers that came.
 type Numbers = BTreeSet<u32>;
+/// The places that came with 4, 5 and 6: the number, and for 4 the input.
+type Named = BTreeSet<(u32, u32)>;
 
 /// Calls all jobs on inputs that are spoiled by each damage, one after the other.
 fn compare(inputs: &Inputs, damages: &[Damage], numbers: &mut Numbers) {
+    compare_named(inputs, damages, numbers, &mut Named::new());
+}
+
+/// The same, and keeps what is named behind the first place of an input.
+fn compare_named(inputs: &Inputs, damages: &[Damage], numbers: &mut Numbers, named: &mut Named) {
     for job in Job::ALL {
         let mut spoiled = inputs.clone();
         let mut buffers = Buffers::of(job, inputs);
@@ -29,6 +36,9 @@ fn compare(inputs: &Inputs, damages: &[Damage], numbers: &mut Numbers) {
         }
         let (answer, written) = run(call::<Library>, job, &spoiled, &buffers);
         numbers.insert(answer.number);
+        if matches!(answer.number, 4..=6) && answer.first > 0 {
+            named.insert((answer.number, answer.second));
+        }
         for plain in PLAIN {
             let (found, words) = run(plain, job, &spoiled, &buffers);
             let sizes = (inputs.depth, inputs.rate);
@@ -82,14 +92,19 @@ fn all_depths_and_rates_undamaged() {
 #[test]
 fn bench_sizes_with_every_damage() {
     let mut numbers = Numbers::new();
+    let mut named = Named::new();
     for depth in [10, 14] {
         let inputs = Inputs::drawn(Sizes { depth, rate: 8 }, 32);
         compare(&inputs, &[], &mut numbers);
         for &damage in damage::ALL {
-            compare(&inputs, &[damage], &mut numbers);
+            compare_named(&inputs, &[damage], &mut numbers, &mut named);
         }
     }
     assert_eq!(numbers, all_numbers(), "every answer has to come");
+    // A single value, y, has no index but 0.
+    let inputs = [1, 2, 3, 4, 5, 7, 8].map(|input| (4, input));
+    let all = inputs.into_iter().chain([(5, 0), (6, 0)]);
+    assert_eq!(named, all.collect(), "every input has to be named");
 }
 
 /// A place that repeats: at every two positions of short lists, at some of the longest.

@@ -3,7 +3,7 @@
 //! The message 9 0 0 .. is the polynomial 9: so are its values, the entries of its table, the words of
 //! its codeword, and every fold of that.
 
-use super::answer;
+use super::{answer, P};
 use crate::answer::Answer;
 use crate::code::LentCode;
 use crate::jobs::{CodeJobs, GroundJobs, OpeningJobs};
@@ -78,6 +78,7 @@ pub fn code<J: CodeJobs>() {
         let done = J::fold(depth as u32, 2, &t, &t2, &block, 4, &mut folded);
         assert_eq!((done, folded), (Answer::DONE, vec![9; words / 2]));
     }
+    last_words::<J>();
     let row = Row::new(21);
     let mut block = vec![77; 2 << 21];
     let refused = J::encode(row.code(21), &message(21), &mut block);
@@ -87,6 +88,23 @@ pub fn code<J: CodeJobs>() {
     let refused = J::fold(21, 2, &t, &t2, &block, 4, &mut folded);
     assert_eq!(refused, answer(1, 0, 0));
     assert!(block.iter().chain(&folded).all(|&word| word == 77));
+}
+
+/// At depth 20 a diagonal has 2097150 words and a message 1048576: the last place of each.
+fn last_words<J: CodeJobs>() {
+    let mut row = Row::new(20);
+    let mut message = message(20);
+    let mut block = vec![77; 2 << 20];
+    row.0[1][2_097_149] = 2;
+    let refused = J::encode(row.code(20), &message, &mut block);
+    assert_eq!(refused, answer(6, 2_097_149, 0));
+    message[1_048_575] = P;
+    let refused = J::encode(row.code(20), &message, &mut block);
+    assert_eq!(refused, answer(4, 1_048_575, 4));
+    row.0[1][2_097_149] = u32::MAX;
+    let refused = J::encode(row.code(20), &message, &mut block);
+    assert_eq!(refused, answer(4, 2_097_149, 3));
+    assert!(block.iter().all(|&word| word == 77));
 }
 
 pub fn opening<J: OpeningJobs>() {

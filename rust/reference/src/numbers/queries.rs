@@ -49,18 +49,20 @@ fn repeated<J: OpeningJobs>() {
 
 /// A repeat beside each of 1 to 6, and at depth 0.
 fn first_refused<J: OpeningJobs>() {
-    let refused = |code, block: &[u32]| {
-        J::verify_opening(code, block, &[3], 26, &[4], &[1, 1], &OPENING).number
-    };
-    assert_eq!(refused(CODE, &BLOCK), 11);
-    assert_eq!(refused(LentCode { depth: 21, ..CODE }, &BLOCK), 1);
-    assert_eq!(refused(LentCode { rate: 17, ..CODE }, &BLOCK), 2);
-    assert_eq!(refused(CODE, &BLOCK[1..]), 3);
-    assert_eq!(refused(CODE, &[P, 26, BLOCK[2], BLOCK[3]]), 4);
+    let refused =
+        |code, block: &[u32]| J::verify_opening(code, block, &[3], 26, &[4], &[1, 1], &OPENING);
+    let code = LentCode { depth: 21, ..CODE };
+    assert_eq!(refused(CODE, &BLOCK), answer(11, 0, 0));
+    assert_eq!(refused(code, &BLOCK), answer(1, 0, 0));
+    let code = LentCode { rate: 17, ..CODE };
+    assert_eq!(refused(code, &BLOCK), answer(2, 0, 0));
+    assert_eq!(refused(CODE, &BLOCK[1..]), answer(3, 0, 0));
+    let block = [BLOCK[0], P, BLOCK[2], BLOCK[3]];
+    assert_eq!(refused(CODE, &block), answer(4, 1, 4));
     let g = &[1, 0];
-    assert_eq!(refused(LentCode { g, ..CODE }, &BLOCK), 5);
+    assert_eq!(refused(LentCode { g, ..CODE }, &BLOCK), answer(5, 1, 0));
     let t2 = &[CODE.t2[0], CODE.t[1]];
-    assert_eq!(refused(LentCode { t2, ..CODE }, &BLOCK), 6);
+    assert_eq!(refused(LentCode { t2, ..CODE }, &BLOCK), answer(6, 1, 0));
     for queries in [&[0][..], &[0, 0]] {
         let refused = J::verify_opening(DEPTH_0, &[9, 9], &[], 9, &[], queries, &[9]);
         assert_eq!(refused, answer(7, 0, 0));

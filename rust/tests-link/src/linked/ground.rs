@@ -12,7 +12,7 @@ impl GroundJobs for Linked {
     fn read_clearance(word: u32) -> Reading {
         let raw = unsafe { tv_read_clearance(word) };
         Reading {
-            number: raw.number,
+            answer: answer(raw.answer),
             kind: raw.kind,
             amount: raw.amount,
         }

@@ -1,6 +1,6 @@
 //! Encoding, decoding, folding.
 
-use super::{good, illegal_sizes, once_deep, pairs, random, singles, Swept};
+use super::{good, illegal_sizes, once_deep, pairs, places, random, singles, Swept};
 use crate::call::{Call, Input, Job};
 use crate::compare::Comparison;
 use crate::damage::{moved, moved_back};
@@ -22,6 +22,7 @@ pub fn run(c: &mut Comparison, scale: usize) -> Swept {
             pairs(c, job, Shape::any(0, 2, &mut rng), &mut rng)?;
         }
         illegal_sizes(c, job, &mut rng)?;
+        places::run(c, job, &mut rng)?;
         random(c, job, 3_000 * scale, 12, &mut rng)?;
     }
     blocks(c, 2_000 * scale, &mut rng)?;
@@ -29,7 +30,8 @@ pub fn run(c: &mut Comparison, scale: usize) -> Swept {
     fold_levels(c, &mut rng)
 }
 
-/// Depths 13 to 16 and rate 16 at the last, once each, and a block of that size that is no codeword.
+/// Depths 13 to 16 and rate 16 at the last, once each, a block of that size that is no codeword, and the
+/// last place of each input of that size.
 pub fn sixteen(c: &mut Comparison) -> Swept {
     let mut rng = Rng::new(201);
     for job in ALL {
@@ -37,6 +39,7 @@ pub fn sixteen(c: &mut Comparison) -> Swept {
             good(c, job, Shape::any(depth, rate, &mut rng), &mut rng)?;
         }
         let mut call = good(c, job, Shape::random(16, 16), &mut rng)?;
+        places::last(c, &call, &mut rng)?;
         if job == Job::Decode {
             let last = call.lent.words_mut(Input::Block).last_mut();
             let last = last.expect("a block is not empty");

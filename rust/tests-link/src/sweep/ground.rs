@@ -1,6 +1,6 @@
 //! Readings, tables and evaluation.
 
-use super::{good, illegal_sizes, once_deep, pairs, random, singles, Swept};
+use super::{good, illegal_sizes, once_deep, pairs, places, random, singles, Swept};
 use crate::buffer::Buffer;
 use crate::call::{Call, Input, Job};
 use crate::compare::Comparison;
@@ -27,6 +27,9 @@ pub fn run(c: &mut Comparison, scale: usize) -> Swept {
     }
     for job in TABLES {
         lengths(c, job, &mut rng)?;
+    }
+    for job in [Job::ReadClearance, Job::CoefficientsToTable, Job::Evaluate] {
+        places::run(c, job, &mut rng)?;
     }
     corners(c, &mut rng)
 }

@@ -3,6 +3,7 @@
 pub mod code;
 pub mod ground;
 pub mod opening;
+pub mod places;
 pub mod repeats;
 
 use crate::call::{Call, Job};

@@ -1,6 +1,7 @@
 //! Writing and verifying openings.
 
-use super::{damaged, good, illegal_sizes, once_deep, pairs, random, repeats, singles, Swept};
+use super::Swept;
+use super::{damaged, good, illegal_sizes, once_deep, pairs, places, random, repeats, singles};
 use crate::call::{Call, Input, Job};
 use crate::compare::Comparison;
 use crate::damage::{moved, moved_back, Damage, Place};
@@ -62,6 +63,7 @@ fn common(c: &mut Comparison, job: Job, scale: usize, rng: &mut Rng) -> Swept {
         pairs(c, job, Shape::any(depth, rate, rng), rng)?;
     }
     illegal_sizes(c, job, rng)?;
+    places::run(c, job, rng)?;
     random(c, job, 2_000 * scale, 10, rng)
 }
 
@@ -73,15 +75,16 @@ pub fn sixteen(c: &mut Comparison) -> Swept {
             good(c, job, Shape::any(depth, rate, &mut rng), &mut rng)?;
         }
     }
-    good(c, Job::WriteOpening, Shape::random(16, 16), &mut rng)?;
+    let call = good(c, Job::WriteOpening, Shape::random(16, 16), &mut rng)?;
+    places::last(c, &call, &mut rng)?;
     let call = good(c, Job::VerifyOpening, Shape::random(16, 16), &mut rng)?;
+    places::last(c, &call, &mut rng)?;
     let damages = [
         Damage::Moved(Input::Y, Place::First),
         Damage::Moved(Input::Opening, Place::First),
         Damage::Moved(Input::Opening, Place::Last),
         Damage::Moved(Input::Opening, Place::Any),
         Damage::Moved(Input::Block, Place::Any),
-        Damage::Word(Input::Opening, u32::MAX, Place::Last),
         Damage::QueryFilled(256),
         Damage::QueryRepeated,
     ];

@@ -25,11 +25,7 @@ fn reads_p_as_zero(call: &mut Call) -> Answer {
 fn reads_as(call: &mut Call, word: u32, kind: u32, amount: u32) -> Answer {
     let answer = REFERENCE(call);
     if call.job == Job::ReadClearance && call.lent.single(Input::Word) == word {
-        return Answer {
-            first: kind,
-            second: amount,
-            ..answer
-        };
+        call.out.reading = (kind, amount);
     }
     answer
 }
@@ -52,6 +48,10 @@ fn reads_minus_one_as_contact(call: &mut Call) -> Answer {
 
 fn reads_the_half_as_free(call: &mut Call) -> Answer {
     reads_as(call, 1_073_741_824, 1, 1_073_741_824)
+}
+
+fn reads_p_as_contact_too(call: &mut Call) -> Answer {
+    reads_as(call, Residue::MODULUS, 3, 0)
 }
 
 fn changes_clearances(call: &mut Call, from: i32, to: i32) -> Answer {
@@ -169,13 +169,14 @@ fn judges_lengths_before_the_depth(call: &mut Call) -> Answer {
 
 #[test]
 fn ground() {
-    let mutants: [(&str, Runner); 21] = [
+    let mutants: [(&str, Runner); 22] = [
         ("reads p as zero", reads_p_as_zero),
         ("reads zero as free", reads_zero_as_free),
         ("reads zero as overlap", reads_zero_as_overlap),
         ("reads one as contact", reads_one_as_contact),
         ("reads minus one as contact", reads_minus_one_as_contact),
         ("reads the half as free", reads_the_half_as_free),
+        ("answers 4 and reads on", reads_p_as_contact_too),
         ("takes a clearance too large", takes_a_clearance_too_large),
         ("takes a clearance too small", takes_a_clearance_too_small),
         (

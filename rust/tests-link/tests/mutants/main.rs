@@ -5,6 +5,7 @@
 mod code;
 mod ground;
 mod opening;
+mod places;
 mod repeats;
 mod verifier;
 
@@ -16,7 +17,10 @@ use tvarchula_reference::{Answer, Residue};
 type Sweep = fn(&mut Comparison) -> Swept;
 
 /// Shows that every mutant is found, and prints what found it.
-fn all_found(reference: Runner, mutants: &[(&str, Runner)], sweeps: &[Sweep]) {
+fn all_found<S>(reference: Runner, mutants: &[(&str, Runner)], sweeps: &[S])
+where
+    S: Fn(&mut Comparison) -> Swept,
+{
     let mut unseen = Vec::new();
     for &(name, mutant) in mutants {
         let mut comparison = Comparison::new(mutant, reference);

@@ -1,7 +1,10 @@
 use mathlib.Core.Path.{_∙_}
-use mathlib.Core.Option.{none}
-use Rattle.places.specs.Inputs.{inOrder, highIn}
-use Rattle.places.proofs.Chained.{step, onwards-first}
+use mathlib.Core.List.{[], _∷_}
+use Rattle.job.specs.Outcome.{done}
+use Rattle.job.specs.declared.Input.the-variants.{G, T, T2, Block, Z, Y, R, Opening}
+use Rattle.residue.specs.Chosen.{chosen}
+use Rattle.places.specs.Inputs.{below}
+use Rattle.places.proofs.Chained.{step, onwards-each}
 use borrow.Author.Needs.{needs}
 use Rattle.places.proofs.inputs.first_word.Statement.{statement}
 use Rattle.places.proofs.inputs.first_word.Tie as tie
@@ -33,9 +36,9 @@ or-in-requires-8 c κs = search needs
 returns : tie.Need-returns
 returns c =
     let a = c .before .before .before .before .before .before .before .before .before .before .before .before .before .before .before .before .args in
-    let p = a .bound in
-    step (highIn p (8, a .opening .now)) (c .or-in8 .ensures) (step (highIn p (7, a .r .now)) (c .before .or-in7 .ensures) (step (highIn p (6, a .y .now)) (c .before .before .or-in6 .ensures) (step (highIn p (5, a .z .now)) (c .before .before .before .or-in5 .ensures) (step (highIn p (4, a .block .now)) (c .before .before .before .before .or-in4 .ensures) (step (highIn p (3, a .t2 .now)) (c .before .before .before .before .before .or-in3 .ensures) (step (highIn p (2, a .t .now)) (c .before .before .before .before .before .before .or-in2 .ensures) (c .before .before .before .before .before .before .before .or-in .ensures)))))))
-    ∙ onwards-first p none (inOrder (a .g .now) (a .t .now) (a .t2 .now) (a .block .now) (a .z .now) (a .y .now) (a .r .now) (a .opening .now))
+    let 𝓕 = chosen (a .field) in
+    step (below 𝓕 (Opening, a .opening .now)) (c .or-in8 .ensures) (step (below 𝓕 (R, a .r .now)) (c .before .or-in7 .ensures) (step (below 𝓕 (Y, a .y .now)) (c .before .before .or-in6 .ensures) (step (below 𝓕 (Z, a .z .now)) (c .before .before .before .or-in5 .ensures) (step (below 𝓕 (Block, a .block .now)) (c .before .before .before .before .or-in4 .ensures) (step (below 𝓕 (T2, a .t2 .now)) (c .before .before .before .before .before .or-in3 .ensures) (step (below 𝓕 (T, a .t .now)) (c .before .before .before .before .before .before .or-in2 .ensures) (c .before .before .before .before .before .before .before .or-in .ensures)))))))
+    ∙ onwards-each (done tt) (below 𝓕 (G, a .g .now) ∷ below 𝓕 (T, a .t .now) ∷ below 𝓕 (T2, a .t2 .now) ∷ below 𝓕 (Block, a .block .now) ∷ below 𝓕 (Z, a .z .now) ∷ below 𝓕 (Y, a .y .now) ∷ below 𝓕 (R, a .r .now) ∷ below 𝓕 (Opening, a .opening .now) ∷ [])
 
 pub first-word-spec : {M : Type 1} → statement M
 first-word-spec =

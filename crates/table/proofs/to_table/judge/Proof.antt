@@ -1,43 +1,65 @@
--- The tests as one chain. Assumes nothing.
-use mathlib.Core.Path.{refl}
+-- One test after another; the words by the flag of the scan. Assumes nothing.
+use mathlib.Core.Path.{refl, sym, _∙_}
 use mathlib.Core.Bool.{_&&_}
+use mathlib.Core.List.{[], _∷_}
 use lib.Dec.{eqb}
 use lib.ListN.{length}
 use borrow.Author.Needs.{needs}
-use Rattle.job.specs.OutcomeLaws.{link, last}
+use Rattle.algebra.specs.Tests.{all}
+use Rattle.algebra.specs.Flags.{passes, fails}
+use Rattle.residue.specs.Chosen.{chosen}
+use Rattle.job.specs.declared.Input.the-variants.{Block}
+use Rattle.job.specs.OutcomeLaws.{stop, pass, pass-demand}
+use Rattle.places.specs.Inputs.{inOrder}
+use Rattle.places.specs.FlagLaws.{words-flagged}
+use Rattle.table.specs.DepthLaws.{length-most}
 use Rattle.table.proofs.to_table.judge.Statement.{statement}
 use Rattle.table.proofs.to_table.judge.Tie as tie
 
 is-power-requires : tie.Need-is-power-requires
 is-power-requires c κs = search needs
 
+returns : tie.Need-returns
+returns c = stop _ (fails (c .before .is-power .ensures) (c .if1 .taken))
+
+returns-2 : tie.Need-returns-2
+returns-2 c =
+    let a = c .before .before .before .before .args in
+    let n = length (a .m .now) in
+    pass 1 (passes (c .before .before .is-power .ensures) (c .before .if1 .left)) (stop _ (fails {b = eqb (a .table) n && eqb (a .work) n} refl (c .if2 .taken)))
+
 all-below-requires : tie.Need-all-below-requires
 all-below-requires c κs = search needs
 
-require-requires : tie.Need-require-requires
-require-requires c κs = search needs
+slice-aggregate-none : tie.Need-slice-aggregate-none
+slice-aggregate-none c = search needs
 
-require-requires-2 : tie.Need-require-requires-2
-require-requires-2 c κs = search needs
+judge-without-row-requires : tie.Need-judge-without-row-requires
+judge-without-row-requires c κs =
+    let p = c .before .before .before in
+    let most = length-most _ (passes (p .before .is-power .ensures) (p .if1 .left)) in
+    search needs
 
-require-requires-3 : tie.Need-require-requires-3
-require-requires-3 c κs = search needs
-
-returns : tie.Need-returns
-returns c =
-    let r = c .before .before in
-    let a = r .before .before .before .before .args in
-    let n = length (a .message .now) in
-    link _ 1 (c .require3 .ensures) (r .before .before .is-power .ensures)
-    (link (eqb (a .table) n && eqb (a .work) n) 3 (c .before .require2 .ensures) refl (last _ 4 (r .require .ensures) (r .before .all-below .ensures)))
+returns-3 : tie.Need-returns-3
+unfolding all
+returns-3 c =
+    let s = c .before .before in
+    let p = s .before .before in
+    let a = p .before .before .before .args in
+    let m = a .m .now in
+    let n = length m in
+    pass 1 (passes (p .before .is-power .ensures) (p .if1 .left))
+    (pass 3 (passes {b = eqb (a .table) n && eqb (a .work) n} refl (s .before .if2 .left))
+    (c .judge-without-row .ensures ∙ words-flagged (chosen (a .field)) (s .all-below .result) (inOrder [] [] [] m [] [] [] []) ((Block, m) ∷ []) refl (λ q. sym (pass-demand _ (sym (s .all-below .ensures) ∙ q) refl))))
 
 pub judge-spec : {M : Type 1} → statement M
 judge-spec =
     tie.close
     (tie.spec
     is-power-requires
+    returns
+    returns-2
     all-below-requires
-    require-requires
-    require-requires-2
-    require-requires-3
-    returns)
+    slice-aggregate-none
+    judge-without-row-requires
+    returns-3)

@@ -11,14 +11,14 @@ enum-told c = search needs
 enum-known-answer : tie.Need-enum-known-answer
 enum-known-answer c = search needs
 
-number-requires : tie.Need-number-requires
-number-requires c κs = search needs
+refused-requires : tie.Need-refused-requires
+refused-requires c κs = search needs
 
 returns : tie.Need-returns
 returns c = ap (λ a. reply (outcome a)) (sym (c .enum-told .given .1))
 
 returns-2 : tie.Need-returns-2
-returns-2 c = (λ i. record { number = c .number .ensures i; first = 0; second = 0 }) ∙ ap (λ a. reply (outcome a)) (sym (c .before .before .answer .given .1))
+returns-2 c = c .refused .ensures ∙ ap (λ a. reply (outcome a)) (sym (c .before .before .answer .given .1))
 
 pub plain-spec : {M : Type 1} → statement M
-plain-spec = tie.close (tie.spec enum-told enum-known-answer number-requires returns returns-2)
+plain-spec = tie.close (tie.spec enum-told enum-known-answer refused-requires returns returns-2)

@@ -14,8 +14,8 @@ enum-known-e c = search needs
 enum-known-e-2 : tie.Need-enum-known-e-2
 enum-known-e-2 c = search needs
 
-number-requires : tie.Need-number-requires
-number-requires c κs = search needs
+refused-requires : tie.Need-refused-requires
+refused-requires c κs = search needs
 
 returns : tie.Need-returns
 returns c =
@@ -29,7 +29,7 @@ returns-2 c =
     let is = sym (c .before .before .e2 .given .1) in
     record {
       job = e .result;
-      answer = (λ i. record { number = c .number .ensures i; first = 0; second = 0 }) ∙ ap (λ x. reply (evaluated x)) is;
+      answer = c .refused .ensures ∙ ap (λ x. reply (evaluated x)) is;
       result = e .ensures;
       single = ap (λ x. given (evaluated x) (c .before .before .before .before .before .before .before .args .value .now)) is;
     }
@@ -37,4 +37,4 @@ returns-2 c =
 pub tv-evaluate-spec : {M : Type 1} → statement M
 tv-evaluate-spec =
     tie.close
-    (tie.spec evaluate-requires enum-known-e enum-known-e-2 number-requires returns returns-2)
+    (tie.spec evaluate-requires enum-known-e enum-known-e-2 refused-requires returns returns-2)

@@ -18,8 +18,8 @@ failed-requires c κs = search needs
 enum-known-o-2 : tie.Need-enum-known-o-2
 enum-known-o-2 c = search needs
 
-number-requires : tie.Need-number-requires
-number-requires c κs = search needs
+refused-requires : tie.Need-refused-requires
+refused-requires c κs = search needs
 
 returns : tie.Need-returns
 returns c = ap (λ o. triple (numbers (record { outcome = o }))) (sym (c .enum-told .given .1))
@@ -28,7 +28,7 @@ returns-2 : tie.Need-returns-2
 returns-2 c = c .failed .ensures ∙ ap (λ o. triple (numbers (record { outcome = o }))) (sym (c .before .before .o .given .1))
 
 returns-3 : tie.Need-returns-3
-returns-3 c = (λ i. record { number = c .number .ensures i; first = 0; second = 0 }) ∙ ap (λ o. triple (numbers (record { outcome = o }))) (sym (c .before .before .o2 .given .1))
+returns-3 c = c .refused .ensures ∙ ap (λ o. triple (numbers (record { outcome = o }))) (sym (c .before .before .o2 .given .1))
 
 pub told-spec : {M : Type 1} → statement M
 told-spec =
@@ -38,7 +38,7 @@ told-spec =
     enum-known-o
     failed-requires
     enum-known-o-2
-    number-requires
+    refused-requires
     returns
     returns-2
     returns-3)

@@ -14,8 +14,8 @@ enum-known-w c = search needs
 enum-known-w-2 : tie.Need-enum-known-w-2
 enum-known-w-2 c = search needs
 
-number-requires : tie.Need-number-requires
-number-requires c κs = search needs
+refused-requires : tie.Need-refused-requires
+refused-requires c κs = search needs
 
 same-length : tie.Need-same-length
 same-length c = search needs
@@ -46,7 +46,7 @@ returns-2 c =
     let is = sym (c .before .before .w2 .given .1) in
     record {
       job = w .result;
-      answer = (λ i. record { number = c .number .ensures i; first = 0; second = 0 }) ∙ ap (λ x. reply (wrote x)) is;
+      answer = c .refused .ensures ∙ ap (λ x. reply (wrote x)) is;
       result = w .ensures;
       single = ap (λ x. given (wrote x) (c .before .before .before .before .before .before .before .before .before .before .before .before .before .before .before .before .before .before .before .args .value .now)) is;
     }
@@ -58,7 +58,7 @@ tv-write-opening-spec =
     write-opening-requires
     enum-known-w
     enum-known-w-2
-    number-requires
+    refused-requires
     same-length
     same-length-2
     returns

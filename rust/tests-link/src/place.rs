@@ -1,0 +1,108 @@
+//! Whether the place that a refusal names is the first which offends, looked up in the call as lent and
+//! not in what any side says.
+
+use crate::call::{Input, Lent};
+use tvarchula_reference::{Answer, Residue};
+
+const P: u32 = Residue::MODULUS;
+
+/// Of 4, 5 and 6: something offends at the named place, and nothing does before it.
+pub fn is_first(lent: &Lent, answer: Answer) -> bool {
+    let index = answer.first as usize;
+    match (answer.number, answer.second) {
+        (4, input) => is_first_word(lent, input, index),
+        (5, 0) => ends_at(lent, Input::G, index, |word, _| word == 0),
+        (6, 0) => ends_at(lent, Input::T, index, |word, j| {
+            lent.words(Input::T2).get(j) == Some(&word)
+        }),
+        _ => false,
+    }
+}
+
+/// Whether the word is p or more, and every word before it in its input and in those before is not.
+fn is_first_word(lent: &Lent, number: u32, index: usize) -> bool {
+    let judged = || {
+        let inputs = lent.words.keys();
+        inputs.filter_map(|&input| Some((input, input.number()?)))
+    };
+    let Some((named, _)) = judged().find(|(_, other)| *other == number) else {
+        return false;
+    };
+    let mut before = judged().filter(|(_, other)| *other < number);
+    let high = |word: &u32| *word >= P;
+    before.all(|(input, _)| !lent.words(input).iter().any(high))
+        && ends_at(lent, named, index, |word, _| high(&word))
+}
+
+/// Whether the first word of an input that offends stands at this index.
+fn ends_at(lent: &Lent, input: Input, index: usize, offends: impl Fn(u32, usize) -> bool) -> bool {
+    let Some(words) = lent.words.get(&input) else {
+        return false;
+    };
+    let offends = |j: usize| offends(words[j], j);
+    index < words.len() && offends(index) && !(0..index).any(offends)
+}
+
+#[cfg(test)]
+mod tests {
+    use super::*;
+
+    fn lent(inputs: &[(Input, &[u32])]) -> Lent {
+        let words = inputs.iter().map(|(input, words)| (*input, words.to_vec()));
+        Lent {
+            words: words.collect(),
+            ..Lent::default()
+        }
+    }
+
+    fn named(lent: &Lent, number: u32, first: u32, second: u32) -> bool {
+        let answer = Answer {
+            number,
+            first,
+            second,
+        };
+        is_first(lent, answer)
+    }
+
+    /// The only answer of all that is right.
+    fn only(lent: &Lent, number: u32, due: (u32, u32)) {
+        for first in 0..6 {
+            for second in 0..10 {
+                let right = named(lent, number, first, second);
+                assert_eq!(right, (first, second) == due, "{first} {second}");
+            }
+        }
+    }
+
+    #[test]
+    fn the_first_word_of_the_first_input() {
+        let all: [(Input, &[u32]); 5] = [
+            (Input::G, &[1, 2]),
+            (Input::Block, &[0, P, 3, P]),
+            (Input::Z, &[P]),
+            (Input::Queries, &[P]),
+            (Input::Opening, &[P, P]),
+        ];
+        only(&lent(&all), 4, (1, 4));
+        only(&lent(&all[2..]), 4, (0, 5));
+        only(&lent(&all[3..]), 4, (0, 8));
+        assert!(!named(&lent(&all[3..4]), 4, 0, 0));
+        only(&lent(&[(Input::Word, &[P + 1])]), 4, (0, 4));
+        only(&lent(&[(Input::Message, &[P - 1, P])]), 4, (1, 4));
+        let folded: [(Input, &[u32]); 2] = [(Input::Block, &[1]), (Input::Challenge, &[P])];
+        only(&lent(&folded), 4, (0, 7));
+    }
+
+    #[test]
+    fn the_first_zero_and_the_first_pair() {
+        let row = lent(&[(Input::G, &[1, 1, 0, 2, 0])]);
+        only(&row, 5, (2, 0));
+        let pair = lent(&[(Input::T, &[1, 0, 3, 4]), (Input::T2, &[2, 1, 3, 4])]);
+        only(&pair, 6, (2, 0));
+        let none: [(Input, &[u32]); 3] =
+            [(Input::G, &[1]), (Input::T, &[1, 2]), (Input::T2, &[2, 1])];
+        for number in [4, 5, 6] {
+            only(&lent(&none), number, (u32::MAX, 0));
+        }
+    }
+}
