@@ -1,6 +1,5 @@
 // Reading a residue as a clearance.
 ghost use mathlib.Core.Path.{_≡_};
-ghost use Rattle.algebra.specs.Words.{𝔽₁};
 ghost use Rattle.residue.specs.Chosen.{chosen};
 ghost use Rattle.clearance.specs.Reading.{reading, readingOutcome};
 use job::Input;
@@ -18,7 +17,7 @@ pub enum Reading {
 }
 
 // The word is the whole block, so its place is 0.
-fn read(word: u32, field: Field) -> Reading
+pub fn read_clearance(word: u32, field: Field) -> Reading
     ensures { λ r. ⌜ readingOutcome r ≡ reading (chosen field) word ⌝ }
 {
     let r = match Residue::from_word(word, field) {
@@ -34,10 +33,4 @@ fn read(word: u32, field: Field) -> Reading
         let amount = Residue::modulus(field) - w;
         Reading::Overlap(amount)
     }
-}
-
-pub fn read_clearance(word: u32) -> Reading
-    ensures { λ r. ⌜ readingOutcome r ≡ reading 𝔽₁ word ⌝ }
-{
-    read(word, Field::First)
 }

@@ -2,7 +2,6 @@
 ghost use mathlib.Core.Path.{_≡_};
 ghost use mathlib.Core.Bool.{_&&_};
 ghost use lib.ListN.{length};
-ghost use Rattle.algebra.specs.Words.{𝔽₁};
 ghost use Rattle.residue.specs.Chosen.{chosen};
 ghost use Rattle.job.specs.Outcome.{outcome};
 ghost use Rattle.parameters.specs.Lent.{codeword};
@@ -68,12 +67,13 @@ pub fn encode(
     t2: &[u32],
     message: &[u32],
     out: &mut [u32],
+    field: Field,
 ) -> Answer
-    ensures { λ r. ⌜ Encoded 𝔽₁ depth rate (now (g .entry)) (now (t .entry)) (now (t2 .entry)) (now (message .entry)) (now (out .entry)) r (now (out .exit)) ⌝ }
+    ensures { λ r. ⌜ Encoded (chosen field) depth rate (now (g .entry)) (now (t .entry)) (now (t2 .entry)) (now (message .entry)) (now (out .entry)) r (now (out .exit)) ⌝ }
 {
-    let answer = judge(depth, rate, g, t, t2, message, out.len(), Field::First);
+    let answer = judge(depth, rate, g, t, t2, message, out.len(), field);
     if let Answer::Done = answer {
-        encode_words(depth, g, t, t2, message, out, Field::First);
+        encode_words(depth, g, t, t2, message, out, field);
     }
     answer
 }

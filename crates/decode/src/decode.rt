@@ -3,7 +3,6 @@ ghost use mathlib.Core.Path.{_≡_};
 ghost use mathlib.Core.Bool.{_&&_};
 ghost use Prim.Native.Nat.{_^_, _≤_};
 ghost use lib.ListN.{length, take, replicate};
-ghost use Rattle.algebra.specs.Words.{𝔽₁};
 ghost use Rattle.residue.specs.Chosen.{chosen};
 ghost use Rattle.job.specs.Outcome.{outcome};
 ghost use Rattle.parameters.specs.Parameters.{inLimits};
@@ -166,22 +165,13 @@ pub fn decode(
     block: &[u32],
     out: &mut [u32],
     work: &mut [u32],
+    field: Field,
 ) -> Answer
-    ensures { λ r. ⌜ Decoded 𝔽₁ depth rate (now (g .entry)) (now (t .entry)) (now (t2 .entry)) (now (block .entry)) (now (out .entry)) (now (work .entry)) r (now (out .exit)) (now (work .exit)) ⌝ }
+    ensures { λ r. ⌜ Decoded (chosen field) depth rate (now (g .entry)) (now (t .entry)) (now (t2 .entry)) (now (block .entry)) (now (out .entry)) (now (work .entry)) r (now (out .exit)) (now (work .exit)) ⌝ }
 {
-    let answer = judge(
-        depth,
-        rate,
-        g,
-        t,
-        t2,
-        block,
-        out.len(),
-        work.len(),
-        Field::First,
-    );
+    let answer = judge(depth, rate, g, t, t2, block, out.len(), work.len(), field);
     if let Answer::Done = answer {
-        return settle(depth, g, t, t2, block, out, work, Field::First);
+        return settle(depth, g, t, t2, block, out, work, field);
     }
     answer
 }

@@ -5,7 +5,6 @@ ghost use mathlib.Core.List.{[], _∷_};
 ghost use Prim.Native.Nat.{_+_};
 ghost use lib.Dec.{ltb};
 ghost use lib.ListN.{length};
-ghost use Rattle.algebra.specs.Words.{𝔽₁};
 ghost use Rattle.algebra.specs.WordLists.{Low as LowWords};
 ghost use Rattle.job.specs.Outcome.{outcome, unless, _⨾_};
 ghost use Rattle.residue.specs.Elements.{P, Low};
@@ -165,28 +164,13 @@ pub fn fold(
     block: &[u32],
     challenge: u32,
     out: &mut [u32],
+    field: Field,
 ) -> Answer
-    ensures { λ r. ⌜ Folded 𝔽₁ level rate (now (t .entry)) (now (t2 .entry)) (now (block .entry)) challenge (now (out .entry)) r (now (out .exit)) ⌝ }
+    ensures { λ r. ⌜ Folded (chosen field) level rate (now (t .entry)) (now (t2 .entry)) (now (block .entry)) challenge (now (out .entry)) r (now (out .exit)) ⌝ }
 {
-    let answer = judge(
-        level,
-        rate,
-        t,
-        t2,
-        block,
-        challenge,
-        out.len(),
-        Field::First,
-    );
+    let answer = judge(level, rate, t, t2, block, challenge, out.len(), field);
     if let Answer::Done = answer {
-        fold_block(
-            t,
-            t2,
-            block,
-            Residue::new(challenge, Field::First),
-            out,
-            Field::First,
-        );
+        fold_block(t, t2, block, Residue::new(challenge, field), out, field);
     }
     answer
 }

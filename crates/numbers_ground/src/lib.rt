@@ -4,6 +4,7 @@ use clearance::reading::Reading;
 use job::Answer;
 use job::Refusal;
 use polynomial::Evaluation;
+use residue::Field;
 use table::to_coefficients;
 use table::to_table;
 
@@ -22,7 +23,7 @@ fn meaning(r: Reading) {
 fn read(word: u32) {
     print::label(b"read");
     print::number(word);
-    meaning(reading::read_clearance(word));
+    meaning(reading::read_clearance(word, Field::First));
 }
 
 pub fn readings() {
@@ -35,7 +36,10 @@ pub fn readings() {
 }
 
 fn transform(text: &[u8], t: &[i32], m: &mut [u32]) {
-    print::answer(text, to_coefficients::table_to_coefficients(t, m));
+    print::answer(
+        text,
+        to_coefficients::table_to_coefficients(t, m, Field::First),
+    );
 }
 
 fn three() {
@@ -82,7 +86,10 @@ fn coefficients(text: &[u8], t: &[i32], m: &mut [u32]) {
 }
 
 fn back(m: &[u32], t: &mut [i32], work: &mut [u32]) {
-    print::answer(b"and back:", to_table::coefficients_to_table(m, t, work));
+    print::answer(
+        b"and back:",
+        to_table::coefficients_to_table(m, t, work, Field::First),
+    );
 }
 
 fn back_and_there(m: &[u32]) {
@@ -112,7 +119,7 @@ fn evaluate(text: &[u8], depth: u32, z: u32) {
     print::label(text);
     let m = [5u32, 7];
     let point = [z];
-    value(polynomial::evaluate(depth, &m, &point));
+    value(polynomial::evaluate(depth, &m, &point, Field::First));
 }
 
 pub fn evaluations() {

@@ -1,6 +1,5 @@
 // Writing an opening.
 ghost use lib.ListN.{length};
-ghost use Rattle.algebra.specs.Words.{𝔽₁};
 ghost use Rattle.residue.specs.Chosen.{chosen};
 ghost use Rattle.rounds.specs.Opening.{WriteInput};
 ghost use Rattle.open.specs.Writing.{WriteResult, Wrote};
@@ -52,8 +51,9 @@ pub fn write_opening(
     r: &[u32],
     opening: &mut [u32],
     work: &mut [u32],
+    field: Field,
 ) -> Written
-    ensures { λ a. ⌜ Wrote 𝔽₁ depth rate (now (g .entry)) (now (t .entry)) (now (t2 .entry)) (now (message .entry)) (now (z .entry)) (now (r .entry)) (now (opening .entry)) (now (work .entry)) a (now (opening .exit)) (now (work .exit)) ⌝ }
+    ensures { λ a. ⌜ Wrote (chosen field) depth rate (now (g .entry)) (now (t .entry)) (now (t2 .entry)) (now (message .entry)) (now (z .entry)) (now (r .entry)) (now (opening .entry)) (now (work .entry)) a (now (opening .exit)) (now (work .exit)) ⌝ }
 {
     let answer = judge::judge(
         depth,
@@ -66,11 +66,11 @@ pub fn write_opening(
         r,
         opening.len(),
         work.len(),
-        Field::First,
+        field,
     );
     match answer {
         Answer::Done => {
-            let v = write_words(depth, g, t, t2, message, z, r, opening, work, Field::First);
+            let v = write_words(depth, g, t, t2, message, z, r, opening, work, field);
             Written::Value(v.word())
         }
         Answer::Refused(n) => Written::Refused(n),

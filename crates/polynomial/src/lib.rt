@@ -1,7 +1,6 @@
 // The value of the multilinear polynomial whose coefficients a message holds.
 ghost use mathlib.Core.Path.{_≡_};
 ghost use mathlib.Core.Bool.{_&&_};
-ghost use Rattle.algebra.specs.Words.{𝔽₁};
 ghost use Rattle.algebra.specs.WordLists.{elements};
 ghost use Rattle.job.specs.Outcome.{outcome};
 ghost use Rattle.job.specs.Limits.{depthOk};
@@ -91,12 +90,12 @@ fn judge(depth: u32, m: &[u32], z: &[u32], field: Field) -> Answer
     inputs::judge_without_row(words, none, none, m, z, none, field)
 }
 
-pub fn evaluate(depth: u32, message: &[u32], point: &[u32]) -> Evaluation
-    ensures { λ r. ⌜ evaluationOutcome r ≡ evaluation 𝔽₁ depth (now (message .entry)) (now (point .entry)) ⌝ }
+pub fn evaluate(depth: u32, message: &[u32], point: &[u32], field: Field) -> Evaluation
+    ensures { λ r. ⌜ evaluationOutcome r ≡ evaluation (chosen field) depth (now (message .entry)) (now (point .entry)) ⌝ }
 {
-    let answer = judge(depth, message, point, Field::First);
+    let answer = judge(depth, message, point, field);
     match answer {
-        Answer::Done => Evaluation::Value(value(message, point, Field::First).word()),
+        Answer::Done => Evaluation::Value(value(message, point, field).word()),
         Answer::Refused(r) => Evaluation::Refused(r),
     }
 }

@@ -4,7 +4,6 @@ ghost use mathlib.Core.Bool.{true};
 ghost use mathlib.Core.List.{map};
 ghost use lib.ListN.{length};
 ghost use Rattle.algebra.specs.Tests.{all};
-ghost use Rattle.algebra.specs.Words.{𝔽₁};
 ghost use Rattle.algebra.specs.WordLists.{elements, toWords};
 ghost use Rattle.multilinear.specs.Table.{coefficients};
 ghost use Rattle.job.specs.Outcome.{outcome};
@@ -44,13 +43,13 @@ fn find(clearances: &[i32], message: &mut [u32], field: Field)
     transform::transform(Way::ToCoefficients, depth, message, field);
 }
 
-pub fn table_to_coefficients(clearances: &[i32], message: &mut [u32]) -> Answer
-    ensures { λ r. ⌜ ToCoefficients 𝔽₁ (now (clearances .entry)) (now (message .entry)) (now (message .exit)) r ⌝ }
+pub fn table_to_coefficients(clearances: &[i32], message: &mut [u32], field: Field) -> Answer
+    ensures { λ r. ⌜ ToCoefficients (chosen field) (now (clearances .entry)) (now (message .entry)) (now (message .exit)) r ⌝ }
 {
-    let verdict = judge(clearances, message.len(), Field::First);
+    let verdict = judge(clearances, message.len(), field);
     match verdict {
         Answer::Done => {
-            find(clearances, message, Field::First);
+            find(clearances, message, field);
             Answer::Done
         }
         Answer::Refused(r) => Answer::Refused(r),

@@ -2,7 +2,6 @@
 ghost use mathlib.Core.Path.{_≡_};
 ghost use mathlib.Core.Bool.{true};
 ghost use lib.ListN.{length, replicate};
-ghost use Rattle.algebra.specs.Words.{𝔽₁};
 ghost use Rattle.algebra.specs.WordLists.{Low};
 ghost use Rattle.job.specs.Outcome.{outcome};
 ghost use Rattle.residue.specs.Elements.{P};
@@ -47,13 +46,18 @@ fn find(message: &[u32], clearances: &mut [i32], work: &mut [u32], field: Field)
     slices::to_clearances(work, clearances, field);
 }
 
-pub fn coefficients_to_table(message: &[u32], clearances: &mut [i32], work: &mut [u32]) -> Answer
-    ensures { λ r. ⌜ ToTable 𝔽₁ (now (message .entry)) (now (clearances .entry)) (now (clearances .exit)) (now (work .entry)) (now (work .exit)) r ⌝ }
+pub fn coefficients_to_table(
+    message: &[u32],
+    clearances: &mut [i32],
+    work: &mut [u32],
+    field: Field,
+) -> Answer
+    ensures { λ r. ⌜ ToTable (chosen field) (now (message .entry)) (now (clearances .entry)) (now (clearances .exit)) (now (work .entry)) (now (work .exit)) r ⌝ }
 {
-    let verdict = judge(message, clearances.len(), work.len(), Field::First);
+    let verdict = judge(message, clearances.len(), work.len(), field);
     match verdict {
         Answer::Done => {
-            find(message, clearances, work, Field::First);
+            find(message, clearances, work, field);
             Answer::Done
         }
         Answer::Refused(r) => Answer::Refused(r),

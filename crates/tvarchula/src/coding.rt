@@ -4,6 +4,7 @@ ghost use Rattle.tvarchula.specs.Replies.{EncodeCall, DecodeCall, FoldCa
 use crate::answer;
 use crate::answer::Reply;
 use code::encode;
+use residue::Field;
 
 #[no_mangle]
 pub extern "C" fn tv_encode(
@@ -17,7 +18,7 @@ pub extern "C" fn tv_encode(
 ) -> Reply
     ensures { λ r. ⌜ EncodeCall 𝔽₁ depth rate (now (g .entry)) (now (t .entry)) (now (t2 .entry)) (now (message .entry)) (now (block .entry)) r (now (block .exit)) ⌝ }
 {
-    answer::plain(encode::encode(depth, rate, g, t, t2, message, block))
+    answer::plain(encode::encode(depth, rate, g, t, t2, message, block, Field::First))
 }
 
 #[no_mangle]
@@ -33,7 +34,7 @@ pub extern "C" fn tv_decode(
 ) -> Reply
     ensures { λ r. ⌜ DecodeCall 𝔽₁ depth rate (now (g .entry)) (now (t .entry)) (now (t2 .entry)) (now (block .entry)) (now (message .entry)) (now (work .entry)) r (now (message .exit)) (now (work .exit)) ⌝ }
 {
-    answer::plain(decode::decode::decode(depth, rate, g, t, t2, block, message, work))
+    answer::plain(decode::decode::decode(depth, rate, g, t, t2, block, message, work, Field::First))
 }
 
 #[no_mangle]
@@ -48,5 +49,5 @@ pub extern "C" fn tv_fold(
 ) -> Reply
     ensures { λ r. ⌜ FoldCall 𝔽₁ level rate (now (t .entry)) (now (t2 .entry)) (now (block .entry)) challenge (now (folded .entry)) r (now (folded .exit)) ⌝ }
 {
-    answer::plain(fold::fold(level, rate, t, t2, block, challenge, folded))
+    answer::plain(fold::fold(level, rate, t, t2, block, challenge, folded, Field::First))
 }

@@ -9,6 +9,7 @@ use crate::answer::Reply;
 use clearance::reading::Reading;
 use job::Refusal;
 use polynomial::Evaluation;
+use residue::Field;
 
 // kind is 1 for free, 2 for an overlap, 3 for contact, whose amount is 0; kind and amount are 0 where the word is refused.
 #[repr(C)]
@@ -48,7 +49,7 @@ fn not_read(refusal: Refusal) -> ReadingReply
 pub extern "C" fn tv_read_clearance(word: u32) -> ReadingReply
     ensures { λ r. ⌜ r ≡ readingReply (reading 𝔽₁ word) ⌝ }
 {
-    let r = clearance::reading::read_clearance(word);
+    let r = clearance::reading::read_clearance(word, Field::First);
     match r {
         Reading::Free(n) => read_as(1, n),
         Reading::Contact => read_as(3, 0),
@@ -61,7 +62,7 @@ pub extern "C" fn tv_read_clearance(word: u32) -> ReadingReply
 pub extern "C" fn tv_table_to_coefficients(clearances: &[i32], message: &mut [u32]) -> Reply
     ensures { λ r. ⌜ ToCoefficientsCall 𝔽₁ (now (clearances .entry)) (now (message .entry)) (now (message .exit)) r ⌝ }
 {
-    answer::plain(table::to_coefficients::table_to_coefficients(clearances, message))
+    answer::plain(table::to_coefficients::table_to_coefficients(clearances, message, Field::First))
 }
 
 #[no_mangle]
@@ -72,14 +73,14 @@ pub extern "C" fn tv_coefficients_to_table(
 ) -> Reply
     ensures { λ r. ⌜ ToTableCall 𝔽₁ (now (message .entry)) (now (clearances .entry)) (now (clearances .exit)) (now (work .entry)) (now (work .exit)) r ⌝ }
 {
-    answer::plain(table::to_table::coefficients_to_table(message, clearances, work))
+    answer::plain(table::to_table::coefficients_to_table(message, clearances, work, Field::First))
 }
 
 #[no_mangle]
 pub extern "C" fn tv_evaluate(depth: u32, message: &[u32], z: &[u32], value: &mut u32) -> Reply
     ensures { λ r. ⌜ EvaluateCall 𝔽₁ depth (now (message .entry)) (now (z .entry)) (now (value .entry)) r (now (value .exit)) ⌝ }
 {
-    let e = polynomial::evaluate(depth, message, z);
+    let e = polynomial::evaluate(depth, message, z, Field::First);
     match e {
         Evaluation::Value(v) => {
             *value = v;

@@ -7,6 +7,7 @@ ghost use Rattle.tvarchula.specs.Replies.{triple, WriteCall};
 use crate::answer;
 use crate::answer::Reply;
 use open::Written;
+use residue::Field;
 use verify::Failure;
 use verify::Outcome;
 use verify::Verdict;
@@ -27,7 +28,19 @@ pub extern "C" fn tv_write_opening(
 ) -> Reply
     ensures { λ a. ⌜ WriteCall 𝔽₁ depth rate (now (g .entry)) (now (t .entry)) (now (t2 .entry)) (now (message .entry)) (now (z .entry)) (now (r .entry)) (now (opening .entry)) (now (work .entry)) (now (value .entry)) a (now (opening .exit)) (now (work .exit)) (now (value .exit)) ⌝ }
 {
-    let w = open::write_opening(depth, rate, g, t, t2, message, z, r, opening, work);
+    let w = open::write_opening(
+        depth,
+        rate,
+        g,
+        t,
+        t2,
+        message,
+        z,
+        r,
+        opening,
+        work,
+        Field::First,
+    );
     match w {
         Written::Value(v) => {
             *value = v;
@@ -100,5 +113,18 @@ pub extern "C" fn tv_verify_opening<'a>(
 ) -> Reply
     ensures { λ a. ⌜ a ≡ triple (numbersOf (verification 𝔽₁ depth rate (now (g .entry)) (now (t .entry)) (now (t2 .entry)) (now (block .entry)) (now (z .entry)) y (now (r .entry)) (now (queries .entry)) (now (opening .entry)))) ⌝ }
 {
-    told(verify::verify_opening(depth, rate, g, t, t2, block, z, y, r, queries, opening))
+    told(verify::verify_opening(
+        depth,
+        rate,
+        g,
+        t,
+        t2,
+        block,
+        z,
+        y,
+        r,
+        queries,
+        opening,
+        Field::First,
+    ))
 }

@@ -1,4 +1,3 @@
-use Rattle.algebra.specs.Words.{𝔽₁}
 use Rattle.laws.specs.Honest.{committed, not-committed}
 use borrow.Author.Needs.{needs}
 use Rattle.laws.proofs.commit_open_verify.Statement.{statement}
@@ -29,13 +28,13 @@ same-length-3 : tie.Need-same-length-3
 same-length-3 c = search needs
 
 returns : tie.Need-returns
-returns c = committed 𝔽₁ (c .before .before .before .before .before .before .before .before .before .before .before .before .encode .ensures) (c .before .before .before .before .before .before .before .before .enum-told .given .1) (c .before .before .before .before .open-verify .ensures)
+returns c = committed _ (c .before .before .before .before .before .before .before .before .before .before .before .before .encode .ensures) (c .before .before .before .before .before .before .before .before .enum-told .given .1) (c .before .before .before .before .open-verify .ensures)
 
 same-length-4 : tie.Need-same-length-4
 same-length-4 c = search needs
 
 returns-2 : tie.Need-returns-2
-returns-2 c = not-committed 𝔽₁ (c .before .before .before .before .before .before .encode .ensures) (c .before .before .n .given .1) (c .refused .ensures)
+returns-2 c = not-committed _ (c .before .before .before .before .before .before .encode .ensures) (c .before .before .n .given .1) (c .refused .ensures)
 
 pub commit-open-verify-spec : {M : Type 1} → statement M
 commit-open-verify-spec =

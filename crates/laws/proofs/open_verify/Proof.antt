@@ -1,4 +1,3 @@
-use Rattle.algebra.specs.Words.{𝔽₁}
 use Rattle.laws.specs.Honest.{opened, not-opened}
 use borrow.Author.Needs.{needs}
 use Rattle.laws.proofs.open_verify.Statement.{statement}
@@ -26,7 +25,7 @@ same-length-2 : tie.Need-same-length-2
 same-length-2 c = search needs
 
 returns : tie.Need-returns
-returns c = opened 𝔽₁ (c .before .before .before .before .before .before .before .before .before .write-opening .ensures) (c .before .before .before .y .given .1) (c .verify-opening .ensures)
+returns c = opened _ (c .before .before .before .before .before .before .before .before .before .write-opening .ensures) (c .before .before .before .y .given .1) (c .verify-opening .ensures)
 
 same-length-3 : tie.Need-same-length-3
 same-length-3 c = search needs
@@ -35,7 +34,7 @@ same-length-4 : tie.Need-same-length-4
 same-length-4 c = search needs
 
 returns-2 : tie.Need-returns-2
-returns-2 c = not-opened 𝔽₁ (c .before .before .before .before .before .before .before .before .write-opening .ensures) (c .before .before .n .given .1) (c .refused .ensures)
+returns-2 c = not-opened _ (c .before .before .before .before .before .before .before .before .write-opening .ensures) (c .before .before .n .given .1) (c .refused .ensures)
 
 pub open-verify-spec : {M : Type 1} → statement M
 open-verify-spec =

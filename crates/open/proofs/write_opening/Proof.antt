@@ -1,7 +1,7 @@
 use mathlib.Core.Path.{sym, ap, _∙_}
-use Rattle.algebra.specs.Words.{𝔽₁}
 use Rattle.job.specs.Outcome.{done, outcome}
 use Rattle.job.specs.OutcomeLaws.{after-refused, after-done, kept-done, kept-refused}
+use Rattle.residue.specs.Chosen.{chosen}
 use Rattle.open.proofs.Judged.{write-input}
 use borrow.Author.Needs.{needs}
 use Rattle.open.proofs.write_opening.Statement.{statement}
@@ -14,7 +14,7 @@ enum-told : tie.Need-enum-told
 enum-told c = search needs
 
 write-words-requires : tie.Need-write-words-requires
-write-words-requires c κs = let a = c .before .before .before .before .before .before .before .before .before .before .before .before .before .args in write-input 𝔽₁ (a .depth) (a .rate) (a .g .now) (a .t .now) (a .t2 .now) (a .message .now) (a .z .now) (a .r .now) _ _ (sym (c .before .before .before .before .judge .ensures) ∙ ap outcome (c .before .before .enum-told .given .1))
+write-words-requires c κs = let a = c .before .before .before .before .before .before .before .before .before .before .before .before .before .args in write-input (chosen (a .field)) (a .depth) (a .rate) (a .g .now) (a .t .now) (a .t2 .now) (a .message .now) (a .z .now) (a .r .now) _ _ (sym (c .before .before .before .before .judge .ensures) ∙ ap outcome (c .before .before .enum-told .given .1))
 
 word-requires : tie.Need-word-requires
 word-requires c κs = search needs

@@ -1,7 +1,7 @@
 use mathlib.Core.Path.{sym, ap, _∙_}
-use Rattle.algebra.specs.Words.{𝔽₁}
 use Rattle.job.specs.Outcome.{done, outcome}
 use Rattle.job.specs.OutcomeLaws.{after-refused, after-done}
+use Rattle.residue.specs.Chosen.{chosen}
 use Rattle.polynomial.proofs.Judged.{evaluates}
 use borrow.Author.Needs.{needs}
 use Rattle.polynomial.proofs.evaluate.Statement.{statement}
@@ -14,7 +14,7 @@ enum-told : tie.Need-enum-told
 enum-told c = search needs
 
 value-requires : tie.Need-value-requires
-value-requires c κs = let a = c .before .before .before .before .before .args in evaluates 𝔽₁ (a .depth) (a .message .now) (a .point .now) (sym (c .before .before .judge .ensures) ∙ ap outcome (c .enum-told .given .1))
+value-requires c κs = let a = c .before .before .before .before .before .args in evaluates (chosen (a .field)) (a .depth) (a .message .now) (a .point .now) (sym (c .before .before .judge .ensures) ∙ ap outcome (c .enum-told .given .1))
 
 word-requires : tie.Need-word-requires
 word-requires c κs = search needs

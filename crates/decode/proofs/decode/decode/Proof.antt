@@ -1,6 +1,6 @@
 use mathlib.Core.Path.{refl, sym, ap, _∙_}
-use Rattle.algebra.specs.Words.{𝔽₁}
 use Rattle.job.specs.Outcome.{outcome}
+use Rattle.residue.specs.Chosen.{chosen}
 use Rattle.decode.specs.Decoding.{refusal, settled}
 use Rattle.decode.specs.Laws.{decodes}
 use borrow.Author.Needs.{needs}
@@ -16,7 +16,7 @@ enum-told c = search needs
 settle-requires : tie.Need-settle-requires
 settle-requires c κs =
     let a = c .before .before .before .before .before .before .before .before .before .before .before .args in
-    decodes 𝔽₁ (a .depth) (a .rate) (a .g .now) (a .t .now) (a .t2 .now) (a .block .now) _ _ (sym (c .before .before .before .before .judge .ensures) ∙ ap outcome (c .before .before .enum-told .given .1))
+    decodes (chosen (a .field)) (a .depth) (a .rate) (a .g .now) (a .t .now) (a .t2 .now) (a .block .now) _ _ (sym (c .before .before .before .before .judge .ensures) ∙ ap outcome (c .before .before .enum-told .given .1))
 
 same-length : tie.Need-same-length
 same-length c = search needs

@@ -9,8 +9,8 @@ use Rattle.residue.specs.Chosen.{chosen}
 use Rattle.clearance.specs.Clearances.{free, overlap}
 use Rattle.clearance.specs.ClearanceLaws.{border-half}
 use Rattle.clearance.proofs.Readings.{no-residue, Same, a-residue, reads-contact, reads-free, reads-overlap}
-use Rattle.clearance.proofs.reading.read.Statement.{statement}
-use Rattle.clearance.proofs.reading.read.Tie as tie
+use Rattle.clearance.proofs.reading.read_clearance.Statement.{statement}
+use Rattle.clearance.proofs.reading.read_clearance.Tie as tie
 
 from-word-requires : tie.Need-from-word-requires
 from-word-requires c κs = search needs
@@ -69,8 +69,8 @@ returns-4 c =
     ap₂ (λ u v. done (overlap (u - v))) (c .modulus .ensures) (s .is)
     ∙ reads-overlap 𝓕 _ (omega (arith, s .is, m .if2 .left, m .before .word2 .ensures, m .before .before .half .ensures, border-half 𝓕)) (s .low)
 
-pub read-spec : {M : Type 1} → statement M
-read-spec =
+pub read-clearance-spec : {M : Type 1} → statement M
+read-clearance-spec =
     tie.close
     (tie.spec
     from-word-requires
