@@ -67,6 +67,12 @@ enum-told-7 c = search needs
 placed-requires-10 : tie.Need-placed-requires-10
 placed-requires-10 c κs = search needs
 
+enum-told-8 : tie.Need-enum-told-8
+enum-told-8 c = search needs
+
+placed-requires-11 : tie.Need-placed-requires-11
+placed-requires-11 c κs = search needs
+
 returns : tie.Need-returns
 returns c = c .placed .ensures ∙ ap due (sym (c .before .enum-told .given .1))
 
@@ -97,6 +103,9 @@ returns-9 c = c .placed9 .ensures ∙ ap due (sym (c .before .enum-told6 .given 
 returns-10 : tie.Need-returns-10
 returns-10 c = c .placed10 .ensures ∙ ap due (sym (c .before .enum-told7 .given .1))
 
+returns-11 : tie.Need-returns-11
+returns-11 c = c .placed11 .ensures ∙ ap due (sym (c .before .enum-told8 .given .1))
+
 pub numbers-of-spec : {M : Type 1} → statement M
 numbers-of-spec =
     tie.close
@@ -122,6 +131,8 @@ numbers-of-spec =
     placed-requires-9
     enum-told-7
     placed-requires-10
+    enum-told-8
+    placed-requires-11
     returns
     returns-2
     returns-3
@@ -131,4 +142,5 @@ numbers-of-spec =
     returns-7
     returns-8
     returns-9
-    returns-10)
+    returns-10
+    returns-11)

@@ -1,0 +1,48 @@
+-- The job of filling: which rates have a rule, its answer, and what it leaves in the three slices, for every input. Definitions only. Assumes nothing.
+use mathlib.Core.Path.{_≡_}
+use mathlib.Core.Bool.{Bool, true, cond}
+use mathlib.Core.List.{List}
+use Prim.Native.Nat.{ℕ, zero, suc, _^_}
+use lib.Dec.{eqb}
+use lib.ListN.{length}
+use Rattle.algebra.specs.Words.{𝔽₂}
+use Rattle.job.specs.declared.Answer.{Answer}
+use Rattle.job.specs.Outcome.{Outcome, done, outcome, require, _⨾_, kept}
+use Rattle.parameters.specs.Parameters.{limits, rowLengths, rowWords, legalRow}
+use Rattle.root_rows.specs.Rule.{onesWords, firstWords, negativeWords}
+
+-- c is a power of two
+pub record TwoPower (c : ℕ) : Type 0 where
+  pub log : ℕ
+  pub is : c ≡ 2 ^ log
+
+-- the e from 1 to k with c = 2^e; 0 where there is none
+unfoldable pub exponentTo : ℕ → ℕ → ℕ
+exponentTo zero c = 0
+exponentTo (suc k) c = cond (eqb c (2 ^ suc k)) (suc k) (exponentTo k c)
+
+-- an exponent is below its power
+abbrev pub exponent : ℕ → ℕ
+exponent c = exponentTo c c
+
+-- the test for 12
+abbrev pub isTwoPower : ℕ → Bool
+isTwoPower c = eqb c (2 ^ exponent c)
+
+-- the outcome at depth d and rate c, for slices of g, t and t' words
+abbrev pub judgeFilling : (d c g t t' : ℕ) → Outcome (Unit {0})
+judgeFilling d c g t t' = limits d c ⨾ require (rowLengths d c g t t') 3 ⨾ require (isTwoPower c) 12
+
+-- lent g, t and t', answered r, and left g₁, t₁ and t₁': refused as above, and all three as they were; or as the rule says
+pub record RootsFilled (d c : ℕ) (g t t' : List ℕ) (r : Answer) (g₁ t₁ t₁' : List ℕ) : Type 0 where
+  pub answer : outcome r ≡ judgeFilling d c (length g) (length t) (length t')
+  pub row : g₁ ≡ kept (judgeFilling d c (length g) (length t) (length t')) g (onesWords c)
+  pub first : t₁ ≡ kept (judgeFilling d c (length g) (length t) (length t')) t (firstWords (exponent c) d)
+  pub second : t₁' ≡ kept (judgeFilling d c (length g) (length t) (length t')) t' (negativeWords (firstWords (exponent c) d))
+
+-- no job over the second field refuses depth, rate, row or diagonals
+pub record LegalRoots (d c : ℕ) (g t t' : List ℕ) : Type 0 where
+  pub within : limits d c ≡ done tt
+  pub lengths : rowLengths d c (length g) (length t) (length t') ≡ true
+  pub words : rowWords 𝔽₂ g t t' ≡ true
+  pub legal : legalRow g t t' ≡ done tt
