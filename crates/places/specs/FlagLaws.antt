@@ -10,7 +10,7 @@ use Rattle.algebra.specs.Tests.{all, and-both}
 use Rattle.algebra.specs.Words.{PrimeField}
 use Rattle.job.specs.declared.Input.{Input}
 use Rattle.job.specs.declared.Refusal.the-variants.{Word}
-use Rattle.job.specs.Outcome.{Outcome, done, due, demand, unless, _⨾_}
+use Rattle.job.specs.Outcome.{done, due, demand, unless, _⨾_}
 use Rattle.job.specs.OutcomeLaws.{holds-demand, unless-is}
 use Rattle.words.specs.Scans.{allDiffer}
 use Rattle.places.specs.Places.{firstPlace}

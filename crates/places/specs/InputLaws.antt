@@ -10,13 +10,13 @@ use lib.ListN.{length, getD}
 use Rattle.algebra.specs.Tests.{all, all-at, all₂-at}
 use Rattle.algebra.specs.Words.{PrimeField}
 use Rattle.job.specs.declared.Input.the-variants.{G}
-use Rattle.job.specs.declared.Refusal.the-variants.{Word, BaseRow, Diagonals}
+use Rattle.job.specs.declared.Refusal.the-variants.{Word}
 use Rattle.job.specs.Outcome.{Numbers, Outcome, refused, done, inputNumber, due, demand, _⨾_}
 use Rattle.job.specs.OutcomeLaws.{named, refused-named, from-second, from-first}
 use Rattle.words.specs.Scans.{allBelow, noneZero, allDiffer}
 use Rattle.places.specs.Places.{AllPass, First, firstPlace, highPlace}
 use Rattle.places.specs.PlaceLaws.{first-only, place-first, place₂-first}
-use Rattle.places.specs.Inputs.{Lent, below, judgeWords, FirstWord, noZero, noEqual, FirstZero, FirstEqual}
+use Rattle.places.specs.Inputs.{Lent, judgeWords, FirstWord, noZero, noEqual, FirstZero, FirstEqual}
 
 module _ (𝓕 : PrimeField) where
   open PrimeField 𝓕 using (modulus as P)

@@ -1,7 +1,7 @@
 -- Refusals that name a place: 4 for a word that is not below the modulus, in the first input that has one; 5 and 6 for base row and diagonals.
 -- Definitions only. Assumes nothing.
 use mathlib.Core.Path.{_≡_}
-use mathlib.Core.Bool.{Bool, true, not}
+use mathlib.Core.Bool.{true, not}
 use mathlib.Core.List.{List, [], _∷_}
 use Prim.Native.Nat.{ℕ, _<_, _≤_, min}
 use lib.Dec.{ltb, eqb}
