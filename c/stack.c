@@ -1,6 +1,7 @@
 /* How much stack the functions take: each one runs at the largest depth, and at rate 4 or the one that -DRATE= names, on a painted stack of
- * its own. Decoding goes one way at rates 2 and 3 and another from 4 on; beyond that the rate makes no difference. Prints the bytes that were touched beyond those of a call that does nothing, and exits with 1 when some function takes LIMIT or
- * more, or does not answer 0. */
+ * its own, over both fields. Decoding goes one way at rates 2 and 3 and another from 4 on; beyond that the rate makes no difference. Prints
+ * the bytes that were touched beyond those of a call that does nothing, and exits with 1 when some function takes LIMIT or more, or does
+ * not answer 0. */
 #define _DEFAULT_SOURCE
 #include <stdio.h>
 #include <stdlib.h>
@@ -25,17 +26,19 @@ static uint32_t g[RATE], t[DIAGONALS], t2[DIAGONALS], message[MESSAGE], block[BL
 static uint32_t opening[OPENING], work[BLOCK], decoded[MESSAGE], folded[HALF], value;
 static int32_t table[MESSAGE];
 static uint32_t number;
+static bool field;
 
-#define CODE DEPTH, RATE, g, RATE, t, DIAGONALS, t2, DIAGONALS
+#define CODE field, DEPTH, RATE, g, RATE, t, DIAGONALS, t2, DIAGONALS
 
 static void nothing(void) { number = 0; }
-static void read_clearance(void) { number = tv_read_clearance(5).answer.number; }
-static void to_coefficients(void) { number = tv_table_to_coefficients(table, MESSAGE, message, MESSAGE).number; }
-static void to_table(void) { number = tv_coefficients_to_table(message, MESSAGE, table, MESSAGE, work, MESSAGE).number; }
-static void evaluate(void) { number = tv_evaluate(DEPTH, message, MESSAGE, z, DEPTH, &value).number; }
+static void read_clearance(void) { number = tv_read_clearance(field, 5).answer.number; }
+static void to_coefficients(void) { number = tv_table_to_coefficients(field, table, MESSAGE, message, MESSAGE).number; }
+static void to_table(void) { number = tv_coefficients_to_table(field, message, MESSAGE, table, MESSAGE, work, MESSAGE).number; }
+static void evaluate(void) { number = tv_evaluate(field, DEPTH, message, MESSAGE, z, DEPTH, &value).number; }
 static void encode(void) { number = tv_encode(CODE, message, MESSAGE, block, BLOCK).number; }
 static void decode(void) { number = tv_decode(CODE, block, BLOCK, decoded, MESSAGE, work, BLOCK).number; }
-static void fold(void) { number = tv_fold(DEPTH, RATE, t, HALF, t2, HALF, block, BLOCK, 7, folded, HALF).number; }
+static void fill_roots(void) { number = tv_fill_roots(DEPTH, RATE, g, RATE, t, DIAGONALS, t2, DIAGONALS).number; }
+static void fold(void) { number = tv_fold(field, DEPTH, RATE, t, HALF, t2, HALF, block, BLOCK, 7, folded, HALF).number; }
 
 static void write_opening(void)
 {
@@ -65,6 +68,17 @@ static size_t touched(void (*call)(void))
     return STACK - untouched;
 }
 
+static size_t least;
+
+/* Whether a call does not answer 0, or takes too much. */
+static int measure(const char *name, void (*call)(void))
+{
+    number = 99;
+    const size_t bytes = touched(call) - least;
+    printf("%-28s%5zu bytes of stack, answers %u\n", name, bytes, (unsigned)number);
+    return number != TV_DONE || bytes >= LIMIT;
+}
+
 int main(void)
 {
     for (size_t i = 0; i < DIAGONALS; i++)
@@ -83,13 +97,19 @@ int main(void)
     } calls[] = {{"tv_read_clearance", read_clearance}, {"tv_table_to_coefficients", to_coefficients},
                  {"tv_coefficients_to_table", to_table}, {"tv_evaluate", evaluate}, {"tv_encode", encode}, {"tv_decode", decode},
                  {"tv_fold", fold}, {"tv_write_opening", write_opening}, {"tv_verify_opening", verify_opening}};
-    const size_t least = touched(nothing);
+    least = touched(nothing);
     int wrong = 0;
-    for (size_t i = 0; i < sizeof calls / sizeof *calls; i++) {
-        number = 99;
-        const size_t bytes = touched(calls[i].call) - least;
-        wrong += number != TV_DONE || bytes >= LIMIT;
-        printf("%-26s%5zu bytes of stack, answers %u\n", calls[i].name, bytes, (unsigned)number);
+    for (int second = 0; second < 2; second++) {
+        field = second;
+        printf("modulo %u\n", (unsigned)TV_MODULUS(field));
+        for (size_t i = 0; i < sizeof calls / sizeof *calls; i++)
+            wrong += measure(calls[i].name, calls[i].call);
     }
+    /* Then also with the row and the diagonals that this writes. */
+    wrong += measure("tv_fill_roots", fill_roots);
+    wrong += measure("tv_encode, of these", encode);
+    wrong += measure("tv_decode, of these", decode);
+    wrong += measure("tv_write_opening, of these", write_opening);
+    wrong += measure("tv_verify_opening, of these", verify_opening);
     return wrong > 0;
 }

@@ -1,13 +1,18 @@
-/* Calls each of the nine functions on the order's numbers. Checks every answer and, after every call, every buffer that was lent: a result
- * holds what is due or is as it was, a work buffer too, and what is only read is as it was. Prints one line a check and exits with 1 when
- * something differs. */
+/* Calls each of the ten functions: on the order's numbers, on the same over the second field, and on words of all sizes over both. What is
+ * due was computed outside the library, with plain integers. Checks every answer and, after every call, every buffer that was lent: a
+ * result holds what is due or is as it was, a work buffer too, and what is only read is as it was. Prints one line a check and exits with 1
+ * when something differs. */
 #define _DEFAULT_SOURCE /* MAP_ANONYMOUS in lend.h */
 
 #include "tvarchula.h"
 
 #include "lend.h"
 
-#define P TV_MODULUS
+#include <limits.h>
+
+#define FIELD (now->field)
+#define P (now->p)
+#define LARGEST (now->largest)
 #define GARBAGE 0xdeadbeefu
 /* A negative clearance, as it lies in memory. */
 #define NEGATIVE(amount) (0u - (amount))
@@ -116,20 +121,58 @@ static void end(tv_answer got, tv_answer due)
     differences += !same;
 }
 
-/* The row and the diagonals of the order. */
+/* The field that the checks are made over, and what is due there. The words of wide() are legal in both fields; their products are not. */
+typedef struct {
+    bool field;
+    uint32_t p, largest;
+    uint32_t t2_0[2], block_1[4], opening_3[6], opening_0[6];
+    uint32_t wide_coefficients[4], wide_block[8], wide_value, wide_opening[13];
+} numbers;
+
+static const numbers first = {
+    TV_FIELD_1,
+    2147483647u,
+    1073741823u,
+    {2147483645u, 2147483644u},
+    {19, 26, 2147483638u, 2147483631u},
+    {2147483637u, 36, 152, 33, 33, 33},
+    {5, 0, 2147483628u, 12, 12, 12},
+    {1140850687u, 2013265920u, 1006632977u, 134217705u},
+    {2083370162u, 1331933424u, 1645895456u, 1529436186u, 1697247507u, 1388008010u, 1941022026u, 444795992u},
+    1466793451u,
+    {917484634u, 549308817u, 722141114u, 1284248544u, 2139162822u, 1408502396u, 1350435727u, 228219894u, 863115501u, 1193416249u,
+     293234273u, 242629832u, 863115501u},
+};
+
+static const numbers second = {
+    TV_FIELD_2,
+    2013265921u,
+    1006632960u,
+    {2013265919u, 2013265918u},
+    {19, 26, 2013265912u, 2013265905u},
+    {2013265911u, 36, 152, 33, 33, 33},
+    {5, 0, 2013265902u, 12, 12, 12},
+    {1006632961u, 2013265920u, 1006632977u, 2013265900u},
+    {71879934u, 1485067015u, 507430876u, 321475660u, 1699330465u, 1744421715u, 1710718733u, 1060976548u},
+    986334682u,
+    {1710425977u, 1289174626u, 184656789u, 470935932u, 1485082808u, 879596104u, 1673429329u, 1963931387u, 1647675698u, 1198359231u,
+     1128241595u, 143951967u, 1647675698u},
+};
+
+static const numbers *now;
+
+/* A row and diagonals. */
 typedef struct {
     uint32_t depth, rate;
     list g, t, t2;
 } code;
 
-static const uint32_t row[] = {1, 1}, t_0[] = {2, 3}, t2_0[] = {2147483645u, 2147483644u};
-static const uint32_t block_1[] = {19, 26, 2147483638u, 2147483631u};
-static const uint32_t opening_3[] = {2147483637u, 36, 152, 33, 33, 33};
-static const uint32_t opening_0[] = {5, 0, 2147483628u, 12, 12, 12};
+static const uint32_t row[] = {1, 1}, t_0[] = {2, 3};
 
+/* Those of the order. */
 static code depth_1(void)
 {
-    return (code){1, 2, OF(row), OF(t_0), OF(t2_0)};
+    return (code){1, 2, OF(row), OF(t_0), OF(now->t2_0)};
 }
 
 static code depth_0(void)
@@ -142,7 +185,7 @@ static code depth_0(void)
 static void reading(const char *what, uint32_t word, tv_answer due, uint32_t kind, uint32_t amount)
 {
     begin("tv_read_clearance", what);
-    tv_reading got = tv_read_clearance(word);
+    tv_reading got = tv_read_clearance(FIELD, word);
     words read = writes(LIST(kind, amount));
     read.at[0] = got.kind, read.at[1] = got.amount;
     end(got.answer, due);
@@ -152,47 +195,47 @@ static void to_coefficients(const char *what, list clearances, tv_answer due, li
 {
     begin("tv_table_to_coefficients", what);
     words c = reads(clearances), m = writes(message);
-    end(tv_table_to_coefficients(I(c), W(m)), due);
+    end(tv_table_to_coefficients(FIELD, I(c), W(m)), due);
 }
 
 static void to_table(const char *what, list message, tv_answer due, list clearances, list work)
 {
     begin("tv_coefficients_to_table", what);
     words m = reads(message), c = writes(clearances), s = writes(work);
-    end(tv_coefficients_to_table(W(m), I(c), W(s)), due);
+    end(tv_coefficients_to_table(FIELD, W(m), I(c), W(s)), due);
 }
 
 static void evaluate(const char *what, uint32_t depth, list message, list z, tv_answer due, list value)
 {
     begin("tv_evaluate", what);
     words m = reads(message), point = reads(z), v = writes(value);
-    end(tv_evaluate(depth, W(m), W(point), v.at), due);
+    end(tv_evaluate(FIELD, depth, W(m), W(point), v.at), due);
 }
 
 static void encode(const char *what, code c, list message, tv_answer due, list block)
 {
     begin("tv_encode", what);
     words g = reads(c.g), t = reads(c.t), t2 = reads(c.t2), m = reads(message), b = writes(block);
-    end(tv_encode(c.depth, c.rate, W(g), W(t), W(t2), W(m), W(b)), due);
+    end(tv_encode(FIELD, c.depth, c.rate, W(g), W(t), W(t2), W(m), W(b)), due);
 }
 
 static void decode(const char *what, code c, list block, tv_answer due, list message, list work)
 {
     begin("tv_decode", what);
     words g = reads(c.g), t = reads(c.t), t2 = reads(c.t2), b = reads(block), m = writes(message), s = writes(work);
-    end(tv_decode(c.depth, c.rate, W(g), W(t), W(t2), W(b), W(m), W(s)), due);
+    end(tv_decode(FIELD, c.depth, c.rate, W(g), W(t), W(t2), W(b), W(m), W(s)), due);
 }
 
 static void fold_by(const char *what, uint32_t level, list t, list t2, list block, uint32_t challenge, tv_answer due, list folded)
 {
     begin("tv_fold", what);
     words a = reads(t), a2 = reads(t2), b = reads(block), f = writes(folded);
-    end(tv_fold(level, 2, W(a), W(a2), W(b), challenge, W(f)), due);
+    end(tv_fold(FIELD, level, 2, W(a), W(a2), W(b), challenge, W(f)), due);
 }
 
 static void fold(const char *what, uint32_t level, list block, uint32_t challenge, tv_answer due, list folded)
 {
-    fold_by(what, level, OF(t_0), OF(t2_0), block, challenge, due, folded);
+    fold_by(what, level, OF(t_0), OF(now->t2_0), block, challenge, due, folded);
 }
 
 static void write_opening(const char *what, code c, list message, list z, list r, tv_answer due, list opening, list work, list value)
@@ -200,7 +243,7 @@ static void write_opening(const char *what, code c, list message, list z, list r
     begin("tv_write_opening", what);
     words g = reads(c.g), t = reads(c.t), t2 = reads(c.t2), m = reads(message), point = reads(z), challenges = reads(r);
     words o = writes(opening), s = writes(work), v = writes(value);
-    end(tv_write_opening(c.depth, c.rate, W(g), W(t), W(t2), W(m), W(point), W(challenges), W(o), W(s), v.at), due);
+    end(tv_write_opening(FIELD, c.depth, c.rate, W(g), W(t), W(t2), W(m), W(point), W(challenges), W(o), W(s), v.at), due);
 }
 
 static void verify(const char *what, code c, list block, list z, uint32_t y, list r, list queries, list opening, tv_answer due)
@@ -208,7 +251,14 @@ static void verify(const char *what, code c, list block, list z, uint32_t y, lis
     begin("tv_verify_opening", what);
     words g = reads(c.g), t = reads(c.t), t2 = reads(c.t2), b = reads(block), point = reads(z), challenges = reads(r);
     words q = reads(queries), o = reads(opening);
-    end(tv_verify_opening(c.depth, c.rate, W(g), W(t), W(t2), W(b), W(point), y, W(challenges), W(q), W(o)), due);
+    end(tv_verify_opening(FIELD, c.depth, c.rate, W(g), W(t), W(t2), W(b), W(point), y, W(challenges), W(q), W(o)), due);
+}
+
+static void fill_roots(const char *what, uint32_t depth, uint32_t rate, tv_answer due, list g, list t, list t2)
+{
+    begin("tv_fill_roots", what);
+    words a = writes(g), b = writes(t), b2 = writes(t2);
+    end(tv_fill_roots(depth, rate, W(a), W(b), W(b2)), due);
 }
 
 static uint32_t many[4][TV_BLOCK_LEN(17, 2)];
@@ -225,24 +275,25 @@ static void clearances(void)
 {
     reading("residue 0 is contact", 0, DONE, TV_CONTACT, 0);
     reading("residue 1 is free by 1", 1, DONE, TV_FREE, 1);
-    reading("residue 1073741823 is free by as much", 1073741823, DONE, TV_FREE, TV_MAX_CLEARANCE);
-    reading("residue 1073741824 is an overlap of 1073741823", 1073741824, DONE, TV_OVERLAP, TV_MAX_CLEARANCE);
-    reading("residue 2147483646 is an overlap of 1", P - 1, DONE, TV_OVERLAP, 1);
-    reading("word 2147483647 is no residue", P, WORD(0, 4), 0, 0);
+    reading("the largest clearance is free by as much", LARGEST, DONE, TV_FREE, LARGEST);
+    reading("the next residue is an overlap of as much", LARGEST + 1, DONE, TV_OVERLAP, LARGEST);
+    reading("residue p - 1 is an overlap of 1", P - 1, DONE, TV_OVERLAP, 1);
+    reading("word p is no residue", P, WORD(0, 4), 0, 0);
     reading("word 4294967295 is none", UINT32_MAX, WORD(0, 4), 0, 0);
 
-    to_coefficients("clearance -1 is residue 2147483646, at depth 0", LIST(NEGATIVE(1)), DONE, LIST(2147483646u));
-    to_coefficients("clearance 1073741824 is refused", LIST(1073741824), NUMBER(9), AS_IT_WAS(1));
-    to_coefficients("clearance -1073741824 is refused", LIST(NEGATIVE(1073741824)), NUMBER(9), AS_IT_WAS(1));
+    to_coefficients("clearance -1 is residue p - 1, at depth 0", LIST(NEGATIVE(1)), DONE, LIST(P - 1));
+    to_coefficients("the largest clearance", LIST(LARGEST), DONE, LIST(LARGEST));
+    to_coefficients("a clearance above the largest is refused", LIST(LARGEST + 1), NUMBER(9), AS_IT_WAS(1));
+    to_coefficients("so is its negative", LIST(NEGATIVE(LARGEST + 1)), NUMBER(9), AS_IT_WAS(1));
     to_coefficients("table 3 5 4 10 to coefficients", LIST(3, 5, 4, 10), DONE, LIST(3, 2, 1, 4));
     to_coefficients("table of length 3", LIST(1, 2, 3), NUMBER(1), AS_IT_WAS(3));
     to_coefficients("table of length 0", NONE, NUMBER(1), NONE);
     to_coefficients("message of another length", LIST(1, 2), NUMBER(3), AS_IT_WAS(1));
 
-    to_table("residue 1073741824 is clearance -1073741823", LIST(1073741824), DONE, LIST(NEGATIVE(1073741823)), ZEROS(1));
+    to_table("half of p, rounded up, is the smallest clearance", LIST(LARGEST + 1), DONE, LIST(NEGATIVE(LARGEST)), ZEROS(1));
     to_table("coefficients 3 2 1 4 to table", LIST(3, 2, 1, 4), DONE, LIST(3, 5, 4, 10), ZEROS(4));
     to_table("message of length 3", LIST(1, 2, 3), NUMBER(1), AS_IT_WAS(3), AS_IT_WAS(3));
-    to_table("message word 2147483647", LIST(1, P), WORD(1, 4), AS_IT_WAS(2), AS_IT_WAS(2));
+    to_table("message word p", LIST(1, P), WORD(1, 4), AS_IT_WAS(2), AS_IT_WAS(2));
     to_table("two of them", LIST(1, P, P, 5), WORD(1, 4), AS_IT_WAS(4), AS_IT_WAS(4));
 }
 
@@ -250,16 +301,16 @@ static void codewords(void)
 {
     code c = depth_1(), other = c;
     evaluate("5 + 7 * 3", 1, LIST(5, 7), LIST(3), DONE, LIST(26));
-    evaluate("point word 2147483646", 1, LIST(5, 7), LIST(P - 1), DONE, LIST(P - 2));
-    evaluate("point word 2147483647", 1, LIST(5, 7), LIST(P), WORD(0, 5), AS_IT_WAS(1));
+    evaluate("point word p - 1", 1, LIST(5, 7), LIST(P - 1), DONE, LIST(P - 2));
+    evaluate("point word p", 1, LIST(5, 7), LIST(P), WORD(0, 5), AS_IT_WAS(1));
     evaluate("the same and the last message word", 1, LIST(5, P), LIST(P), WORD(1, 4), AS_IT_WAS(1));
     evaluate("evaluation of two words at depth 17", 17, LIST(5, 7), LIST(3), NUMBER(3), AS_IT_WAS(1));
     evaluate("evaluation at depth 21", 21, LIST(5, 7), LIST(3), NUMBER(1), AS_IT_WAS(1));
 
-    encode("message 5 7 encoded", c, LIST(5, 7), DONE, OF(block_1));
+    encode("message 5 7 encoded", c, LIST(5, 7), DONE, OF(now->block_1));
     encode("message 9 encoded at depth 0", depth_0(), LIST(9), DONE, LIST(9, 9));
-    encode("message word 2147483646", c, LIST(0, P - 1), DONE, LIST(P - 2, P - 3, 2, 3));
-    encode("message word 2147483647", c, LIST(5, P), WORD(1, 4), AS_IT_WAS(4));
+    encode("message word p - 1", c, LIST(0, P - 1), DONE, LIST(P - 2, P - 3, 2, 3));
+    encode("message word p", c, LIST(5, P), WORD(1, 4), AS_IT_WAS(4));
     encode("block of another length", c, LIST(5, 7), NUMBER(3), AS_IT_WAS(3));
     other.depth = 21;
     encode("depth 21", other, LIST(5, 7), NUMBER(1), AS_IT_WAS(4));
@@ -269,29 +320,29 @@ static void codewords(void)
     other.rate = 17;
     encode("rate 17", other, LIST(5, 7), NUMBER(2), AS_IT_WAS(4));
     other = c;
-    other.t2 = LIST(2147483645u, 3);
+    other.t2 = LIST(P - 2, 3);
     encode("diagonals equal at 1", other, LIST(5, 7), EQUAL_AT(1), AS_IT_WAS(4));
     other.g = LIST(1, 0);
     encode("the same and a zero in the row", other, LIST(5, 7), ZERO_AT(1), AS_IT_WAS(4));
 
-    decode("that block decoded", c, OF(block_1), DONE, LIST(5, 7), ZEROS(4));
-    decode("its last word 2147483632", c, LIST(19, 26, 2147483638u, 2147483632u), NUMBER(8), AS_IT_WAS(2), ZEROS(4));
-    decode("its last word 2147483647", c, LIST(19, 26, 2147483638u, P), WORD(3, 4), AS_IT_WAS(2), AS_IT_WAS(4));
+    decode("that block decoded", c, OF(now->block_1), DONE, LIST(5, 7), ZEROS(4));
+    decode("its last word p - 15", c, LIST(19, 26, P - 9, P - 15), NUMBER(8), AS_IT_WAS(2), ZEROS(4));
+    decode("its last word p", c, LIST(19, 26, P - 9, P), WORD(3, 4), AS_IT_WAS(2), AS_IT_WAS(4));
 
-    fold("that block folded by 4", 1, OF(block_1), 4, DONE, LIST(33, 33));
-    fold("folded from level 0", 0, OF(block_1), 4, NUMBER(1), AS_IT_WAS(2));
-    fold("folded from level 21", 21, OF(block_1), 4, NUMBER(1), AS_IT_WAS(2));
-    fold("folded by 2147483647", 1, OF(block_1), P, WORD(0, 7), AS_IT_WAS(2));
+    fold("that block folded by 4", 1, OF(now->block_1), 4, DONE, LIST(33, 33));
+    fold("folded from level 0", 0, OF(now->block_1), 4, NUMBER(1), AS_IT_WAS(2));
+    fold("folded from level 21", 21, OF(now->block_1), 4, NUMBER(1), AS_IT_WAS(2));
+    fold("folded by p", 1, OF(now->block_1), P, WORD(0, 7), AS_IT_WAS(2));
 }
 
 static void openings(void)
 {
     code c = depth_1();
-    list block = OF(block_1), o = OF(opening_3);
+    list block = OF(now->block_1), o = OF(now->opening_3);
     write_opening("5 7 opened at 3 by 4", c, LIST(5, 7), LIST(3), LIST(4), DONE, o, ZEROS(4), LIST(26));
-    write_opening("5 7 opened at 0 by 1", c, LIST(5, 7), LIST(0), LIST(1), DONE, OF(opening_0), ZEROS(4), LIST(5));
+    write_opening("5 7 opened at 0 by 1", c, LIST(5, 7), LIST(0), LIST(1), DONE, OF(now->opening_0), ZEROS(4), LIST(5));
     write_opening("9 opened at depth 0", depth_0(), LIST(9), NONE, NONE, DONE, LIST(9), ZEROS(2), LIST(9));
-    write_opening("challenge 2147483647", c, LIST(5, 7), LIST(3), LIST(P), WORD(0, 7), AS_IT_WAS(6), AS_IT_WAS(4), AS_IT_WAS(1));
+    write_opening("challenge p", c, LIST(5, 7), LIST(3), LIST(P), WORD(0, 7), AS_IT_WAS(6), AS_IT_WAS(4), AS_IT_WAS(1));
 
     verify("26 claimed, queries 0 1", c, block, LIST(3), 26, LIST(4), LIST(0, 1), o, DONE);
     verify("27 claimed: sum 1", c, block, LIST(3), 27, LIST(4), LIST(0, 1), o, (tv_answer){20, 1, 0});
@@ -301,9 +352,9 @@ static void openings(void)
     verify("query 1", c, block, LIST(3), 26, LIST(4), LIST(1), o, DONE);
     verify("query 2", c, block, LIST(3), 26, LIST(4), LIST(2), o, NUMBER(7));
     verify("no query", c, block, LIST(3), 26, LIST(4), NONE, o, NUMBER(7));
-    verify("eq is 0, 5 claimed", c, block, LIST(0), 5, LIST(1), LIST(0), OF(opening_0), DONE);
+    verify("eq is 0, 5 claimed", c, block, LIST(0), 5, LIST(1), LIST(0), OF(now->opening_0), DONE);
     verify("eq is 0, 13 for 12: fold of query 0 to level 0", c, block, LIST(0), 5, LIST(1), LIST(0),
-           LIST(5, 0, 2147483628u, 13, 13, 13), (tv_answer){23, 0, 0});
+           LIST(5, 0, P - 19, 13, 13, 13), (tv_answer){23, 0, 0});
     verify("depth 0, 9 claimed", depth_0(), LIST(9, 9), NONE, 9, NONE, NONE, LIST(9), DONE);
     verify("depth 0, 8 claimed", depth_0(), LIST(9, 9), NONE, 8, NONE, NONE, LIST(9), NUMBER(21));
     verify("depth 0, a query", depth_0(), LIST(9, 9), NONE, 9, NONE, LIST(0), LIST(9), NUMBER(7));
@@ -314,7 +365,7 @@ static void openings(void)
 static void repeats(void)
 {
     code c = depth_1(), zero = c;
-    list block = OF(block_1), z = LIST(3), r = LIST(4), o = OF(opening_3);
+    list block = OF(now->block_1), z = LIST(3), r = LIST(4), o = OF(now->opening_3);
     verify("queries 0 0", c, block, z, 26, r, LIST(0, 0), o, NUMBER(11));
     verify("queries 1 0 1, more than there are places", c, block, z, 26, r, LIST(1, 0, 1), o, NUMBER(11));
     verify("27 claimed, queries 1 1", c, block, z, 27, r, LIST(1, 1), o, NUMBER(11));
@@ -324,7 +375,7 @@ static void repeats(void)
     verify("queries 2 2", c, block, z, 26, r, LIST(2, 2), o, NUMBER(7));
     verify("query 1, 256 times", c, block, z, 26, r, repeated(3, 1, 256), o, NUMBER(11));
     verify("query 1, 257 times", c, block, z, 26, r, repeated(3, 1, 257), o, NUMBER(7));
-    verify("queries 0 0, block word 2147483647", c, LIST(19, 26, P - 9, P), z, 26, r, LIST(0, 0), o, WORD(3, 4));
+    verify("queries 0 0, block word p", c, LIST(19, 26, P - 9, P), z, 26, r, LIST(0, 0), o, WORD(3, 4));
     zero.g = LIST(1, 0);
     verify("queries 0 0, a zero in the row", zero, block, z, 26, r, LIST(0, 0), o, ZERO_AT(1));
 }
@@ -350,7 +401,7 @@ static void places(void)
 
     list block = repeated(0, 9, 8), wrong = LIST(9, 9, 9, 9, 9, 9, P, 9);
     fold_by("level 1 alone, its diagonals equal at 2", 2, LIST(4, 5, 6, 7), LIST(9, 8, 6, 6), block, 4, EQUAL_AT(2), AS_IT_WAS(4));
-    fold_by("the same, by 2147483647", 2, LIST(4, 5, 6, 7), LIST(9, 8, 6, 6), block, P, WORD(0, 7), AS_IT_WAS(4));
+    fold_by("the same, by p", 2, LIST(4, 5, 6, 7), LIST(9, 8, 6, 6), block, P, WORD(0, 7), AS_IT_WAS(4));
     fold_by("and block word 6", 2, LIST(4, 5, 6, 7), LIST(9, 8, 6, 6), wrong, P, WORD(6, 4), AS_IT_WAS(4));
     fold_by("and word 3 of t2", 2, LIST(4, 5, 6, 7), LIST(9, 8, 6, P), wrong, P, WORD(3, 3), AS_IT_WAS(4));
     fold_by("and word 0 of t", 2, LIST(P, 5, 6, 7), LIST(9, 8, 6, P), wrong, P, WORD(0, 2), AS_IT_WAS(4));
@@ -431,8 +482,124 @@ static void deep(void)
     decode("and decoded", c, nines, DONE, OF(message), ZEROS(n));
 }
 
-int main(void)
+/* Words of all sizes at depth 2: every product goes round p. */
+static void wide(void)
 {
+    code c = {2, 2, LIST(1234567890u, 7), LIST(1000000007u, 2013265920u, 123456789u, 987654321u, 2000000000u, 42),
+              LIST(5, 1, 2013265920u, 0, 1500000001u, 1999999999u)};
+    list message = LIST(1111111111u, 2012345678u, 1357924680u, 2013265920u), z = LIST(1700000000u, 999999937u);
+    list r = LIST(2013265920u, 1618033988u), queries = LIST(3, 0, 2, 1), value = {&now->wide_value, 1};
+    list block = OF(now->wide_block), opening = OF(now->wide_opening), table = LIST(NEGATIVE(1006632960u), 1006632960u, 17, NEGATIVE(5));
+    uint32_t other[13];
+
+    to_coefficients("a table of the ends of field 2", table, DONE, OF(now->wide_coefficients));
+    to_table("and back", OF(now->wide_coefficients), DONE, table, ZEROS(4));
+    evaluate("wide words at a wide point", 2, message, z, DONE, value);
+    encode("wide words encoded", c, message, DONE, block);
+    decode("and decoded", c, block, DONE, message, ZEROS(8));
+    for (size_t i = 0; i < 8; i++)
+        other[i] = now->wide_block[i];
+    other[3] ^= 1;
+    decode("another word 3", c, (list){other, 8}, NUMBER(8), AS_IT_WAS(4), ZEROS(8));
+    fold_by("folded by 1618033988", 2, LIST(123456789u, 987654321u, 2000000000u, 42), LIST(2013265920u, 0, 1500000001u, 1999999999u), block,
+            1618033988u, DONE, (list){now->wide_opening + 7, 4});
+    write_opening("wide words opened", c, message, z, r, DONE, opening, ZEROS(8), value);
+    verify("their value claimed, all queries", c, block, z, now->wide_value, r, queries, opening, DONE);
+    verify("another value", c, block, z, now->wide_value + 1, r, queries, opening, (tv_answer){20, 2, 0});
+    for (size_t i = 0; i < 13; i++)
+        other[i] = now->wide_opening[i];
+    other[10] ^= 1;
+    verify("another word 3 in block 1", c, block, z, now->wide_value, r, queries, (list){other, 13}, (tv_answer){23, 0, 1});
+}
+
+/* What one field takes and the other refuses: 2013265921 is 2147483647 - 134217726. */
+static void apart(void)
+{
+    const bool in_first = FIELD == TV_FIELD_1;
+    reading("2013265920, the last word of field 2", 2013265920u, DONE, TV_OVERLAP, in_first ? 134217727u : 1);
+    reading("2013265921, the next", 2013265921u, in_first ? DONE : WORD(0, 4), in_first ? TV_OVERLAP : 0, in_first ? 134217726u : 0);
+    reading("2147483646, the last word of field 1", 2147483646u, in_first ? DONE : WORD(0, 4), in_first ? TV_OVERLAP : 0, in_first ? 1 : 0);
+    to_coefficients("clearance 1006632960", LIST(1006632960u), DONE, LIST(1006632960u));
+    if (in_first) {
+        to_coefficients("clearance 1006632961", LIST(1006632961u), DONE, LIST(1006632961u));
+        to_coefficients("clearance -1006632961", LIST(NEGATIVE(1006632961u)), DONE, LIST(1140850686u));
+        evaluate("point word 2013265921", 1, LIST(0, 1), LIST(2013265921u), DONE, LIST(2013265921u));
+    } else {
+        to_coefficients("clearance 1006632961", LIST(1006632961u), NUMBER(9), AS_IT_WAS(1));
+        to_coefficients("clearance -1006632961", LIST(NEGATIVE(1006632961u)), NUMBER(9), AS_IT_WAS(1));
+        evaluate("point word 2013265921", 1, LIST(0, 1), LIST(2013265921u), WORD(0, 5), AS_IT_WAS(1));
+    }
+}
+
+/* Roots of unity. At depth 2 and rate 2 level 0 is the powers 0 and 1 of the root of order 4, and level 1 the powers 0 to 3 of that of
+ * order 8. The codeword of 5 7 11 13 is then the values of 5 + 11 X + 7 X^2 + 13 X^3 at the powers 0 to 7 of the root of order 8. */
+static void roots(void)
+{
+    list g = LIST(1, 1), t = LIST(1, 1728404513u, 1, 1592366214u, 1728404513u, 211723194u);
+    list t2 = LIST(2013265920u, 284861408u, 2013265920u, 420899707u, 284861408u, 1801542727u), ones = repeated(0, 1, 16);
+    fill_roots("depth 2, rate 2", 2, 2, DONE, g, t, t2);
+    fill_roots("depth 1, rate 4", 1, 4, DONE, LIST(1, 1, 1, 1), LIST(1, 1592366214u, 1728404513u, 211723194u),
+               LIST(2013265920u, 420899707u, 284861408u, 1801542727u));
+    fill_roots("depth 0, rate 2", 0, 2, DONE, g, NONE, NONE);
+    fill_roots("depth 0, rate 16", 0, 16, DONE, ones, NONE, NONE);
+
+    fill_roots("depth 21", 21, 2, NUMBER(1), AS_IT_WAS(2), AS_IT_WAS(6), AS_IT_WAS(6));
+    fill_roots("depth 21, rate 1", 21, 1, NUMBER(1), AS_IT_WAS(2), AS_IT_WAS(6), AS_IT_WAS(6));
+    fill_roots("depth 4294967295, rate 3", UINT32_MAX, 3, NUMBER(1), AS_IT_WAS(3), AS_IT_WAS(9), AS_IT_WAS(9));
+    fill_roots("rate 0", 2, 0, NUMBER(2), NONE, NONE, NONE);
+    fill_roots("rate 1", 2, 1, NUMBER(2), AS_IT_WAS(1), AS_IT_WAS(3), AS_IT_WAS(3));
+    fill_roots("rate 17, and lengths of rate 2", 2, 17, NUMBER(2), AS_IT_WAS(2), AS_IT_WAS(6), AS_IT_WAS(6));
+    fill_roots("rate 32", 0, 32, NUMBER(2), AS_IT_WAS(32), NONE, NONE);
+    fill_roots("a row of another length", 2, 2, NUMBER(3), AS_IT_WAS(1), AS_IT_WAS(6), AS_IT_WAS(6));
+    fill_roots("a longer one", 2, 2, NUMBER(3), AS_IT_WAS(3), AS_IT_WAS(6), AS_IT_WAS(6));
+    fill_roots("t of another length", 2, 2, NUMBER(3), AS_IT_WAS(2), AS_IT_WAS(5), AS_IT_WAS(6));
+    fill_roots("t2 of another length", 2, 2, NUMBER(3), AS_IT_WAS(2), AS_IT_WAS(6), AS_IT_WAS(7));
+    fill_roots("lengths of depth 2 at depth 20", 20, 2, NUMBER(3), AS_IT_WAS(2), AS_IT_WAS(6), AS_IT_WAS(6));
+    fill_roots("the same at rate 3", 20, 3, NUMBER(3), AS_IT_WAS(3), AS_IT_WAS(9), AS_IT_WAS(9));
+    fill_roots("rate 3", 2, 3, NUMBER(12), AS_IT_WAS(3), AS_IT_WAS(9), AS_IT_WAS(9));
+    fill_roots("rate 12, at depth 0", 0, 12, NUMBER(12), AS_IT_WAS(12), NONE, NONE);
+    fill_roots("rate 15", 1, 15, NUMBER(12), AS_IT_WAS(15), AS_IT_WAS(15), AS_IT_WAS(15));
+
+    code c = {2, 2, g, t, t2};
+    list message = LIST(5, 7, 11, 13), z = LIST(3, 4), r = LIST(5, 6), queries = LIST(0, 1, 2, 3);
+    list block = LIST(36, 155006736u, 569722814u, 864554725u, 2013265909u, 1896731325u, 1443543103u, 1110239076u);
+    list opening = LIST(2013265843u, 304, 1386, 2013260383u, 18252, 75192, 496, 156, 1959237364u, 2013265907u, 54028699u, 496, 496);
+    encode("5 7 11 13 encoded with them", c, message, DONE, block);
+    decode("and decoded", c, block, DONE, message, ZEROS(8));
+    write_opening("opened at 3 4 by 5 6", c, message, z, r, DONE, opening, ZEROS(8), LIST(226));
+    verify("226 claimed, all queries", c, block, z, 226, r, queries, opening, DONE);
+    verify("227 claimed: sum 2", c, block, z, 227, r, queries, opening, (tv_answer){20, 2, 0});
+}
+
+/* C converts every number but 0 to true, also one whose lowest byte is 0. The compiler is not told which number it is. */
+static void converted(void)
+{
+    static volatile const int field_2[] = {1, 2, -1, 256, 65536, INT_MIN, 2013265921};
+    static volatile const int field_1 = 0;
+    for (size_t i = 0; i < sizeof field_2 / sizeof *field_2; i++) {
+        char what[64];
+        const int number = field_2[i];
+        snprintf(what, sizeof what, "%d as the field", number);
+        begin("tv_read_clearance", what);
+        words read = writes(LIST(TV_OVERLAP, 1));
+        const tv_reading got = tv_read_clearance(number, 2013265920u);
+        read.at[0] = got.kind, read.at[1] = got.amount;
+        end(got.answer, DONE);
+        begin("tv_evaluate", what);
+        words message = reads(LIST(0, 1)), z = reads(LIST(2013265921u)), value = writes(AS_IT_WAS(1));
+        end(tv_evaluate(number, 1, W(message), W(z), value.at), WORD(0, 5));
+    }
+    begin("tv_evaluate", "0 as the field");
+    words message = reads(LIST(0, 1)), z = reads(LIST(2013265921u)), value = writes(LIST(2013265921u));
+    end(tv_evaluate(field_1, 1, W(message), W(z), value.at), DONE);
+}
+
+/* All that is checked over each field. */
+static void over(const numbers *these)
+{
+    now = these;
+    printf("modulo %u\n", (unsigned)P);
+    differences += TV_MODULUS(FIELD) != P || TV_MAX_CLEARANCE(FIELD) != (int32_t)LARGEST;
     clearances();
     codewords();
     openings();
@@ -441,6 +608,16 @@ int main(void)
     second_half();
     lists();
     deep();
+    wide();
+    apart();
+}
+
+int main(void)
+{
+    over(&first);
+    over(&second);
+    roots();
+    converted();
     printf("%d differences\n", differences);
     return differences > 0;
 }

@@ -1,7 +1,7 @@
-/* Tvarchula: a BaseFold commitment over the integers modulo 2147483647.
+/* Tvarchula: a BaseFold commitment over the integers modulo 2147483647 or modulo 2013265921.
  *
  * One function for each job, over the static library libtvarchula.a. The archive is for x86-64 with SSE2. It wants memset and nothing
- * else, has no data of its own, and takes less than 4.5 KiB of stack at depth 20, where c/stack.c measures it: count on 8.
+ * else, has constants but no writable data, and takes less than 4.5 KiB of stack at depth 20, where c/stack.c measures it: count on 8.
  *
  * Every function answers on any input and keeps no state: any number of threads may call it at once. All memory is lent by the caller;
  * the library allocates nothing and keeps no pointer.
@@ -18,6 +18,7 @@
 #ifndef TVARCHULA_H
 #define TVARCHULA_H
 
+#include <stdbool.h>
 #include <stddef.h>
 #include <stdint.h>
 
@@ -25,18 +26,30 @@
  * when declarations and answers stay, MINOR when some are added, MAJOR when one changes or goes. As long as MAJOR is 0, MINOR moves for
  * changes too. A program and its archive have MAJOR and MINOR in common. */
 #define TV_VERSION_MAJOR 0
-#define TV_VERSION_MINOR 5
+#define TV_VERSION_MINOR 6
 #define TV_VERSION_PATCH 0
-#define TV_VERSION "0.5.0"
+#define TV_VERSION "0.6.0"
 
-/* Limits. */
-#define TV_MODULUS 2147483647u
+/* The field of a call: the integers modulo TV_MODULUS(field). Words do not tell their field: who writes and who verifies agree on it, as on
+ * depth and rate. A bool has no third value: of the numbers that C converts to one, 0 is TV_FIELD_1 and all others are TV_FIELD_2. From
+ * another language pass a byte that is 0 or 1, and nothing else. */
+#define TV_FIELD_1 false
+#define TV_FIELD_2 true
+#define TV_MODULUS_1 2147483647u   /* 2^31 - 1, Mersenne31 */
+#define TV_MODULUS_2 2013265921u   /* 15 * 2^27 + 1, BabyBear */
+#define TV_MODULUS(field) ((field) ? TV_MODULUS_2 : TV_MODULUS_1)
+
+/* Clearances are from -TV_MAX_CLEARANCE(field) to TV_MAX_CLEARANCE(field). */
+#define TV_MAX_CLEARANCE_1 1073741823
+#define TV_MAX_CLEARANCE_2 1006632960
+#define TV_MAX_CLEARANCE(field) ((field) ? TV_MAX_CLEARANCE_2 : TV_MAX_CLEARANCE_1)
+
+/* Limits, the same in both fields. */
 #define TV_MAX_DEPTH 20u
 #define TV_MIN_RATE 2u
 #define TV_MAX_RATE 16u
 #define TV_MAX_QUERIES 256u
 #define TV_MAX_TABLE_LEN 1048576u
-#define TV_MAX_CLEARANCE 1073741823
 
 /* The number of an answer. When several apply, the smallest is given. A number that is not listed here comes from an archive of another
  * version, and is no success. */
@@ -46,21 +59,22 @@
                                       message's on the way back, that is no power of two from 1 to TV_MAX_TABLE_LEN */
 #define TV_REFUSED_RATE 2u         /* rate not TV_MIN_RATE to TV_MAX_RATE */
 #define TV_REFUSED_LENGTH 3u       /* a slice, result and work included, that has not its exact length; for the query list see 7 */
-#define TV_REFUSED_WORD 4u         /* a word or single value that is read is TV_MODULUS or more; for the query list see 7; first is the
-                                      index of the first such word in its input as lent, second is the input, TV_INPUT_G and so on */
+#define TV_REFUSED_WORD 4u         /* a word or single value that is read is TV_MODULUS(field) or more; for the query list see 7; first is
+                                      the index of the first such word in its input as lent, second is the input, TV_INPUT_G and so on */
 #define TV_REFUSED_ROW 5u          /* a zero in the base row; first is the index of the first one in g */
 #define TV_REFUSED_DIAGONALS 6u    /* t and t2 are equal in some place; first is the index of the first such place in t as lent */
 #define TV_REFUSED_QUERIES 7u      /* the query list is too short or too long, or a place in it is too large */
 #define TV_REFUSED_NO_CODEWORD 8u  /* decoding: a well-formed block is no codeword */
-#define TV_REFUSED_CLEARANCE 9u    /* a clearance outside -TV_MAX_CLEARANCE to TV_MAX_CLEARANCE */
+#define TV_REFUSED_CLEARANCE 9u    /* a clearance outside -TV_MAX_CLEARANCE(field) to TV_MAX_CLEARANCE(field) */
 #define TV_REFUSED_REPEATED 11u    /* a place stands in the query list more than once */
+#define TV_REFUSED_NO_POWER_OF_TWO 12u /* filling: a rate from TV_MIN_RATE to TV_MAX_RATE that is no power of two */
 #define TV_FAILED_SUM 20u          /* verifying: sum check i fails; first is i */
 #define TV_FAILED_FINAL 21u        /* verifying: the final check fails */
 #define TV_FAILED_BASE 22u         /* verifying: base check j fails; first is j */
 #define TV_FAILED_FOLD 23u         /* verifying: a fold check fails; first is the query's position from 0, second the level */
 
-/* The inputs that 4 names, in the order in which they are judged: the first of them that has a word of TV_MODULUS or more is named. A
- * single value has the index 0. */
+/* The inputs that 4 names, in the order in which they are judged: the first of them that has a word of TV_MODULUS(field) or more is
+ * named. A single value has the index 0. */
 #define TV_INPUT_G 1u
 #define TV_INPUT_T 2u
 #define TV_INPUT_T2 3u
@@ -115,49 +129,61 @@ typedef struct {
  * TV_DIAGONALS_LEN(depth, rate). Level i of t and t2 begins at TV_DIAGONALS_LEN(i, rate) and has TV_BLOCK_LEN(i, rate) words. */
 
 /* Reads a word as a clearance. Answers 0, or 4 with the index 0 and TV_INPUT_BLOCK. Of the kinds only TV_FREE may be passed. */
-TV_MUST_USE tv_reading tv_read_clearance(uint32_t word);
+TV_MUST_USE tv_reading tv_read_clearance(bool field, uint32_t word);
 
 /* Reads clearances (a power of two, up to TV_MAX_TABLE_LEN). Writes message (as many). */
-TV_MUST_USE tv_answer tv_table_to_coefficients(const int32_t *clearances, size_t clearances_len, uint32_t *message, size_t message_len);
+TV_MUST_USE tv_answer tv_table_to_coefficients(bool field, const int32_t *clearances, size_t clearances_len, uint32_t *message,
+                                               size_t message_len);
 
 /* Reads message (a power of two, up to TV_MAX_TABLE_LEN). Writes clearances (as many). work: as many. */
-TV_MUST_USE tv_answer tv_coefficients_to_table(const uint32_t *message, size_t message_len, int32_t *clearances, size_t clearances_len,
-                                               uint32_t *work, size_t work_len);
+TV_MUST_USE tv_answer tv_coefficients_to_table(bool field, const uint32_t *message, size_t message_len, int32_t *clearances,
+                                               size_t clearances_len, uint32_t *work, size_t work_len);
 
 /* Reads message (m), z (depth). Writes *value, only when the number is 0: the polynomial's value at z. */
-TV_MUST_USE tv_answer tv_evaluate(uint32_t depth, const uint32_t *message, size_t message_len, const uint32_t *z, size_t z_len,
+TV_MUST_USE tv_answer tv_evaluate(bool field, uint32_t depth, const uint32_t *message, size_t message_len, const uint32_t *z, size_t z_len,
                                   uint32_t *value);
 
 /* Reads g (rate), t (l), t2 (l), message (m). Writes block (n): the commitment. */
-TV_MUST_USE tv_answer tv_encode(uint32_t depth, uint32_t rate, const uint32_t *g, size_t g_len, const uint32_t *t, size_t t_len,
+TV_MUST_USE tv_answer tv_encode(bool field, uint32_t depth, uint32_t rate, const uint32_t *g, size_t g_len, const uint32_t *t, size_t t_len,
                                 const uint32_t *t2, size_t t2_len, const uint32_t *message, size_t message_len, uint32_t *block,
                                 size_t block_len);
 
 /* Reads g (rate), t (l), t2 (l), block (n). Writes message (m). work: n. */
-TV_MUST_USE tv_answer tv_decode(uint32_t depth, uint32_t rate, const uint32_t *g, size_t g_len, const uint32_t *t, size_t t_len,
+TV_MUST_USE tv_answer tv_decode(bool field, uint32_t depth, uint32_t rate, const uint32_t *g, size_t g_len, const uint32_t *t, size_t t_len,
                                 const uint32_t *t2, size_t t2_len, const uint32_t *block, size_t block_len, uint32_t *message,
                                 size_t message_len, uint32_t *work, size_t work_len);
 
 /* level is the upper one, 1 to TV_MAX_DEPTH. Reads t, t2 (TV_BLOCK_LEN(level - 1, rate) each: that one level), block
  * (TV_BLOCK_LEN(level, rate)). Writes folded (TV_BLOCK_LEN(level - 1, rate)). */
-TV_MUST_USE tv_answer tv_fold(uint32_t level, uint32_t rate, const uint32_t *t, size_t t_len, const uint32_t *t2, size_t t2_len,
+TV_MUST_USE tv_answer tv_fold(bool field, uint32_t level, uint32_t rate, const uint32_t *t, size_t t_len, const uint32_t *t2, size_t t2_len,
                               const uint32_t *block, size_t block_len, uint32_t challenge, uint32_t *folded, size_t folded_len);
 
 /* Reads g (rate), t (l), t2 (l), message (m), z (depth), r (depth). Writes opening (TV_OPENING_LEN(depth, rate)) and *value, only when the
  * number is 0: the polynomial's value at z. work: 2 * m. The opening holds, for i from depth down to 1, the three words of round i; then
  * the value at r; then the blocks of levels depth - 1 down to 0. */
-TV_MUST_USE tv_answer tv_write_opening(uint32_t depth, uint32_t rate, const uint32_t *g, size_t g_len, const uint32_t *t, size_t t_len,
-                                       const uint32_t *t2, size_t t2_len, const uint32_t *message, size_t message_len,
+TV_MUST_USE tv_answer tv_write_opening(bool field, uint32_t depth, uint32_t rate, const uint32_t *g, size_t g_len, const uint32_t *t,
+                                       size_t t_len, const uint32_t *t2, size_t t2_len, const uint32_t *message, size_t message_len,
                                        const uint32_t *z, size_t z_len, const uint32_t *r, size_t r_len, uint32_t *opening,
                                        size_t opening_len, uint32_t *work, size_t work_len, uint32_t *value);
 
 /* Reads g (rate), t (l), t2 (l), block (n: the commitment), z (depth), y (the value claimed at z), r (depth), queries (1 to TV_MAX_QUERIES
  * places below TV_BLOCK_LEN(depth - 1, rate), each different from all others; at depth 0 none), opening (TV_OPENING_LEN(depth, rate)). A
  * list with a place too large is answered 7, whatever repeats in it; a list with a repeated place 11, before any check of the opening. */
-TV_MUST_USE tv_answer tv_verify_opening(uint32_t depth, uint32_t rate, const uint32_t *g, size_t g_len, const uint32_t *t, size_t t_len,
-                                        const uint32_t *t2, size_t t2_len, const uint32_t *block, size_t block_len, const uint32_t *z,
-                                        size_t z_len, uint32_t y, const uint32_t *r, size_t r_len, const uint32_t *queries,
-                                        size_t queries_len, const uint32_t *opening, size_t opening_len);
+TV_MUST_USE tv_answer tv_verify_opening(bool field, uint32_t depth, uint32_t rate, const uint32_t *g, size_t g_len, const uint32_t *t,
+                                        size_t t_len, const uint32_t *t2, size_t t2_len, const uint32_t *block, size_t block_len,
+                                        const uint32_t *z, size_t z_len, uint32_t y, const uint32_t *r, size_t r_len,
+                                        const uint32_t *queries, size_t queries_len, const uint32_t *opening, size_t opening_len);
+
+/* Writes a base row and diagonals for TV_FIELD_2, the same ones at every call: g (rate) is all ones; level i of t (l) is the powers 0 to
+ * n_i - 1 of the root of unity of order 2 * n_i, where n_i is TV_BLOCK_LEN(i, rate); t2 (l) is the negatives of t. The root of order 2^27
+ * is 31^15, and each one of half the order is the square of the one before. Nothing is read. Answers 0, 1, 2, 3, or 12 where the rate is
+ * not 2, 4, 8 or 16. No field is lent, because TV_FIELD_1 has no such roots.
+ *
+ * The jobs take what is filled: no word of g is 0, and t and t2 differ in every place. With it the codeword of a message is that of a
+ * Reed-Solomon code: the values of one polynomial in one variable, at the powers 0 to n - 1 of the root of order n. Word b of the message
+ * is the coefficient of the degree that has the depth bits of b in reversed order. */
+TV_MUST_USE tv_answer tv_fill_roots(uint32_t depth, uint32_t rate, uint32_t *g, size_t g_len, uint32_t *t, size_t t_len, uint32_t *t2,
+                                    size_t t2_len);
 
 /* What a number means, for people. */
 static inline const char *tv_number_text(uint32_t number)
@@ -167,13 +193,14 @@ static inline const char *tv_number_text(uint32_t number)
     case TV_REFUSED_DEPTH: return "refused: the depth, the upper level, or a length that is no power of two in range";
     case TV_REFUSED_RATE: return "refused: the rate";
     case TV_REFUSED_LENGTH: return "refused: a slice has not its exact length";
-    case TV_REFUSED_WORD: return "refused: a word is 2147483647 or more";
+    case TV_REFUSED_WORD: return "refused: a word is the modulus of its field or more";
     case TV_REFUSED_ROW: return "refused: a zero in the base row";
     case TV_REFUSED_DIAGONALS: return "refused: the diagonals are equal in some place";
     case TV_REFUSED_QUERIES: return "refused: the query list is too short or too long, or a place in it is too large";
     case TV_REFUSED_NO_CODEWORD: return "refused: the block is no codeword";
     case TV_REFUSED_CLEARANCE: return "refused: a clearance is out of range";
     case TV_REFUSED_REPEATED: return "refused: a place stands in the query list more than once";
+    case TV_REFUSED_NO_POWER_OF_TWO: return "refused: the rate is no power of two";
     case TV_FAILED_SUM: return "rejected: a round does not sum to the value claimed before it";
     case TV_FAILED_FINAL: return "rejected: the final value does not fit the last claim";
     case TV_FAILED_BASE: return "rejected: the lowest block does not fit the final value";

@@ -13,12 +13,13 @@ fn main() {
     print::label(b"depth 1 rate 2");
     print::end();
     let mut block = [0u32; 4];
-    coding::tv_encode(1, 2, &g, &t, &t2, &message, &mut block);
+    coding::tv_encode(false, 1, 2, &g, &t, &t2, &message, &mut block);
     print::words(b"codeword", &block);
     let mut opened = [0u32; 6];
     let mut work = [0u32; 4];
     let mut y = 0u32;
     opening::tv_write_opening(
+        false,
         1,
         2,
         &g,
@@ -32,6 +33,19 @@ fn main() {
         &mut y,
     );
     print::words(b"opening", &opened);
-    let v = opening::tv_verify_opening(1, 2, &g, &t, &t2, &block, &z, y, &r, &queries, &opened);
+    let v = opening::tv_verify_opening(
+        false,
+        1,
+        2,
+        &g,
+        &t,
+        &t2,
+        &block,
+        &z,
+        y,
+        &r,
+        &queries,
+        &opened,
+    );
     print::line(b"verdict", v.number);
 }

@@ -8,9 +8,10 @@ use lib.Seq.{ext-getD, getD-take}
 use Rattle.algebra.specs.Words.{PrimeField}
 use Rattle.job.specs.Limits.{diagonalsSize}
 use Rattle.parameters.specs.Lent.{diagonal, Coding}
+use Rattle.parameters.specs.Parameters.{LegalRow}
 use Rattle.parameters.specs.LentLaws.{getD-diagonal, length-diagonal, level-within}
 use Rattle.parameters.specs.ParameterLaws.{lent-coding, row-lengths, RowLengths}
-use Rattle.laws.specs.Calls.{LegalRow, levelsBelow}
+use Rattle.laws.specs.Calls.{levelsBelow}
 
 -- the levels below i are the same in both
 pub diagonal-below : (c i j : ℕ) (t : List ℕ) → j < i → diagonalsSize c i ≤ length t → diagonal c (levelsBelow c i t) j ≡ diagonal c t j

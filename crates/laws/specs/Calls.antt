@@ -1,6 +1,5 @@
--- Legal row and diagonals, what a call is lent of them, calls with buffers of exact length, and what is said of them together. Definitions only. Assumes nothing.
+-- What a call is lent of row and diagonals, calls with buffers of exact length, and what is said of them together. Definitions only. Assumes nothing.
 use mathlib.Core.Path.{_≡_}
-use mathlib.Core.Bool.{true}
 use mathlib.Core.Logic.{_↔_, _⊎_}
 use mathlib.Core.List.{List}
 use Prim.Native.Nat.{ℕ, suc, _^_}
@@ -13,7 +12,6 @@ use Rattle.job.specs.declared.Answer.{Answer}
 use Rattle.job.specs.Outcome.{refused, done, outcome}
 use Rattle.job.specs.Limits.{blockSize, diagonalsSize}
 use Rattle.parameters.specs.Lent.{diagonal}
-use Rattle.parameters.specs.Parameters.{limits, rowLengths, rowWords, legalRow}
 use Rattle.code.specs.Encoding.{Encoded}
 use Rattle.fold.specs.Job.{foldWords, Folded}
 use Rattle.decode.specs.Decoding.{Decoded}
@@ -42,13 +40,6 @@ module _ (𝓕 : PrimeField) where
   open Field F using (ring as K)
   open Words W using (el)
   open Vectors (vectors K) using (_⊕_, _⊛_)
-
-  -- no refusal is due for depth, rate, row and diagonals
-  pub record LegalRow (d c : ℕ) (g t t' : List ℕ) : Type 0 where
-    pub within : limits d c ≡ done tt
-    pub lengths : rowLengths d c (length g) (length t) (length t') ≡ true
-    pub words : rowWords 𝓕 g t t' ≡ true
-    pub legal : legalRow g t t' ≡ done tt
 
   -- what folding level i + 1 to level i writes, lent level i of the diagonals of all levels
   abbrev pub foldedLevel : ℕ → ℕ → List ℕ → List ℕ → List ℕ → ℕ → List ℕ

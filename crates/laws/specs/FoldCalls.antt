@@ -19,10 +19,11 @@ use Rattle.job.specs.declared.Answer.{Answer}
 use Rattle.job.specs.Outcome.{done, outcome, kept}
 use Rattle.job.specs.Limits.{blockSize}
 use Rattle.parameters.specs.Lent.{lent, diagonal, codeword}
+use Rattle.parameters.specs.Parameters.{LegalRow}
 use Rattle.fold.specs.Job.{foldWords}
 use Rattle.decode.specs.Decoding.{judgeDecoding, Settled, message, none, Decoded, refusal, settled}
 use Rattle.decode.specs.Laws.{exactly}
-use Rattle.laws.specs.Calls.{LegalRow, levelsBelow, foldedLevel, mixed, ExactEncode, ExactFold, ExactDecode, ResidueBlock, ResidueMessage, Decides, TwoChallenges}
+use Rattle.laws.specs.Calls.{levelsBelow, foldedLevel, mixed, ExactEncode, ExactFold, ExactDecode, ResidueBlock, ResidueMessage, Decides, TwoChallenges}
 use Rattle.laws.specs.CallLaws.{coding-of, lengths-of}
 use Rattle.laws.specs.NotRefused.{encoding-done, decoding-done, folding-done, row-below}
 use Rattle.laws.specs.Folds.{fold-is, fold-law, two-challenge-law}

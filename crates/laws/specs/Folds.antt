@@ -16,8 +16,9 @@ use Rattle.foldable.specs.Fold.{fold-split, two-challenges}
 use Rattle.foldable.specs.Prefix.{encode-prefix, codeword-prefix}
 use Rattle.job.specs.Limits.{blockSize, diagonalsSize}
 use Rattle.parameters.specs.Lent.{lent, diagonal, Coding, codeword}
+use Rattle.parameters.specs.Parameters.{LegalRow}
 use Rattle.parameters.specs.LentLaws.{diagonals-mono}
-use Rattle.laws.specs.Calls.{LegalRow, levelsBelow, foldedLevel, mixed}
+use Rattle.laws.specs.Calls.{levelsBelow, foldedLevel, mixed}
 use Rattle.laws.specs.CallLaws.{coding-of, lengths-of, diagonal-below}
 
 module _ (𝓕 : PrimeField) where

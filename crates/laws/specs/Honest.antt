@@ -24,7 +24,7 @@ use Rattle.job.specs.Limits.{blockSize}
 use Rattle.words.specs.Scans.{allBelow}
 use Rattle.words.specs.ScanLaws.{all-below}
 use Rattle.parameters.specs.Lent.{codeword}
-use Rattle.parameters.specs.Parameters.{rowLengths}
+use Rattle.parameters.specs.Parameters.{rowLengths, LegalRow}
 use Rattle.parameters.specs.ParameterLaws.{limits-done, RowPassed, row-passed}
 use Rattle.code.specs.Encoding.{encodeLengths, judgeEncoding, Encoded}
 use Rattle.rounds.specs.Opening.{openingWords}
@@ -34,7 +34,6 @@ use Rattle.open.specs.declared.Written.the-variants.{Value, Refused as NotWritt
 use Rattle.verdict.specs.Verdicts.{numbers, numbersOf}
 use Rattle.verify.specs.Verifying.{verification}
 use Rattle.verdict.specs.declared.Verdict.{Verdict}
-use Rattle.laws.specs.Calls.{LegalRow}
 use Rattle.laws.specs.Openings.{opening-accepted}
 use Rattle.laws.specs.Commit.{OpenVerify, CommitOpenVerify, NothingRefused}
 

@@ -1,8 +1,9 @@
 -- What the jobs promise together, over the definitions that their contracts cite.
---     Calls, Commit, Equations   THE DEFINITIONS: legal row and diagonals, and calls on them; committing, opening and verifying in turn; what the verifier compares
+--     Calls, Commit, Equations   THE DEFINITIONS: calls on legal row and diagonals; committing, opening and verifying in turn; what the verifier compares
 --     CallLaws, NotRefused       what is known of a legal row; which calls are refused by none of 1 to 6
 --     Folds                      fold-law, two-challenge-law
 --     FoldCalls                  fold-law-calls, two-challenge-calls: the same, said of calls
+--     Filled                     filled-row, filled-encodes: what is filled by rule is legal, and encoding writes the values of one polynomial
 --     Openings                   opening-accepted, opening-fails
 --     Accepts                    accepts-exactly, rejects-exactly: when the verifier answers 0, and when it names a check
 --     Repeats                    repeats-exactly: when it refuses with 11
@@ -14,6 +15,7 @@ pub mod CallLaws
 pub mod NotRefused
 pub mod Folds
 pub mod FoldCalls
+pub mod Filled
 pub mod Openings
 pub mod Equations
 pub mod Accepts

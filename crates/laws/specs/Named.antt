@@ -9,9 +9,10 @@ use native.Mathlib.Omega.{arith}
 use lib.Dec.{eqb}
 use lib.ListN.{length}
 use Rattle.algebra.specs.Words.{PrimeField}
+use Rattle.job.specs.declared.Answer.{Answer}
 use Rattle.job.specs.declared.Input.the-variants.{Block, Z, R}
-use Rattle.job.specs.Outcome.{Numbers, Outcome, refused, done, require, _⨾_}
-use Rattle.job.specs.OutcomeLaws.{require-number, demand-number, after-number, chain, from-second, from-first}
+use Rattle.job.specs.Outcome.{Numbers, Outcome, refused, done, outcome, require, _⨾_}
+use Rattle.job.specs.OutcomeLaws.{named, require-number, demand-number, after-number, chain, from-second, from-first}
 use Rattle.job.specs.Limits.{depthOk, rateOk}
 use Rattle.words.specs.Scans.{allDiffer}
 use Rattle.places.specs.Inputs.{judgeWords, noEqual, FirstWord, FirstEqual}
@@ -23,7 +24,7 @@ use Rattle.table.specs.Depth.{isPower}
 use Rattle.table.specs.Jobs.{judgeMessage}
 use Rattle.polynomial.specs.Evaluation.{evaluateLengths, evaluateInputs, judgeEvaluating}
 use Rattle.code.specs.Encoding.{encodeLengths, judgeEncoding}
-use Rattle.decode.specs.Decoding.{decodeLengths, judgeDecoding}
+use Rattle.decode.specs.Decoding.{decodeLengths, judgeDecoding, Settled, message, none, Decoded, refusal, settled}
 use Rattle.fold.specs.Job.{levelOk, lengthsOk, foldInputs, judgeFolding}
 use Rattle.open.specs.Writing.{writeLengths, judgeWriting}
 use Rattle.queries.specs.Queries.{judgeQueries}
@@ -108,6 +109,29 @@ module _ (𝓕 : PrimeField) where
     pub decoding-named : (w : List ℕ) (m k : ℕ) → RowNamed 𝓕 d c g t t' (decodeLengths d c (length g) (length t) (length t') (length w) m k) ((Block, w) ∷ []) (judgeDecoding 𝓕 d c g t t' w m k)
     unfolding judgeDecoding
     decoding-named w m k = row-named 𝓕 d c g t t' _ ((Block, w) ∷ [])
+
+    -- a call of decoding answers with that outcome, or is settled, and then with none of 4, 5 and 6
+    pub decoded-named : {w old space : List ℕ} {r : Answer} {out work : List ℕ} → Decoded 𝓕 d c g t t' w old space r out work
+        → RowNamed 𝓕 d c g t t' (decodeLengths d c (length g) (length t) (length t') (length w) (length old) (length space)) ((Block, w) ∷ []) (outcome r)
+    decoded-named {w} {old} {space} {r} x = record {
+      four = λ j n. told (4, j, n) (omega arith) (judged .four j n);
+      five = λ k n. told (5, k, n) (omega arith) (judged .five k n);
+      six = λ k n. told (6, k, n) (omega arith) (judged .six k n);
+    }
+      where
+        judged : RowNamed 𝓕 d c g t t' (decodeLengths d c (length g) (length t) (length t') (length w) (length old) (length space)) ((Block, w) ∷ []) (judgeDecoding 𝓕 d c g t t' w (length old) (length space))
+        judged = decoding-named w (length old) (length space)
+
+        settles : {out : List ℕ} {n : Numbers} → n .0 ≤ 6 → Settled 𝓕 d g t t' w old r out → outcome r ≡ refused n → ⊥
+        settles hi (message e _ _ _) f = never (sym e ∙ f)
+        settles hi (none e _ _) f = omega (arith, hi, ap (λ o. named o .0) (sym f ∙ e))
+
+        told : {A : Type 0} (n : Numbers) → n .0 ≤ 6 → (judgeDecoding 𝓕 d c g t t' w (length old) (length space) ≡ refused n) ↔ A → (outcome r ≡ refused n) ↔ A
+        told {A} n hi f = go x
+          where
+            go : {out work : List ℕ} → Decoded 𝓕 d c g t t' w old space r out work → (outcome r ≡ refused n) ↔ A
+            go (refusal m j a _ _) = (λ e. f .0 (j ∙ sym a ∙ e), λ h. a ∙ sym j ∙ f .1 h)
+            go (settled j s _) = (λ e. absurd (settles hi s e), λ h. absurd (never (sym j ∙ f .1 h)))
 
     pub writing-named : (m z r : List ℕ) (o s : ℕ)
         → RowNamed 𝓕 d c g t t' (writeLengths d c (length g) (length t) (length t') (length m) (length z) (length r) o s) ((Block, m) ∷ (Z, z) ∷ (R, r) ∷ []) (judgeWriting 𝓕 d c g t t' m z r o s)

@@ -19,12 +19,12 @@ use Rattle.words.specs.ScanLaws.{below-all}
 use Rattle.places.specs.Inputs.{Lent, judgeWords}
 use Rattle.parameters.specs.Lent.{diagonal}
 use Rattle.parameters.specs.LentLaws.{length-diagonal, diagonals-mono}
-use Rattle.parameters.specs.Parameters.{limits, rowLengths, rowWords, judgeRow}
+use Rattle.parameters.specs.Parameters.{limits, rowLengths, rowWords, judgeRow, LegalRow}
 use Rattle.parameters.specs.ParameterLaws.{within, row-words, RowWords, row-done}
 use Rattle.code.specs.Encoding.{encodeLengths, judgeEncoding}
 use Rattle.fold.specs.Job.{levelOk, lengthsOk, foldInputs, judgeFolding}
 use Rattle.decode.specs.Decoding.{decodeLengths, judgeDecoding}
-use Rattle.laws.specs.Calls.{LegalRow, levelsBelow}
+use Rattle.laws.specs.Calls.{levelsBelow}
 use Rattle.laws.specs.CallLaws.{lengths-of}
 
 -- depth d or below, and the rate

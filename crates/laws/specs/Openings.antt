@@ -26,6 +26,7 @@ use Rattle.job.specs.Limits.{blockSize}
 use Rattle.words.specs.ScanLaws.{below-all}
 use Rattle.places.specs.Inputs.{judgeWords}
 use Rattle.parameters.specs.Lent.{lent, Coding, codeword}
+use Rattle.parameters.specs.Parameters.{LegalRow}
 use Rattle.rounds.specs.Laws.{length-opening}
 use Rattle.rounds.specs.Opening.{openingWords}
 use Rattle.open.specs.Writing.{valueWord}
@@ -33,7 +34,6 @@ use Rattle.verdict.specs.Verdicts.{numbersOf}
 use Rattle.queries.specs.Queries.{maxQueries, queriesOk, judgeQueries}
 use Rattle.queries.specs.QueryLaws.{queries-legal}
 use Rattle.verify.specs.Verifying.{openedLengths, claimInputs, judgeVerifying, verification}
-use Rattle.laws.specs.Calls.{LegalRow}
 use Rattle.laws.specs.CallLaws.{coding-of, lengths-of}
 use Rattle.laws.specs.NotRefused.{row-judged}
 

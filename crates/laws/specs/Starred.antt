@@ -39,13 +39,13 @@ use Rattle.clearance.specs.Clearances.{residueOf, clearanceOf}
 use Rattle.table.specs.Jobs.{MessageOf}
 use Rattle.table.specs.Depth.{exponentTo}
 use Rattle.parameters.specs.Lent.{lent, diagonal, codeword}
-use Rattle.parameters.specs.Parameters.{rowLengths, rowWords}
+use Rattle.parameters.specs.Parameters.{rowLengths, rowWords, LegalRow}
 use Rattle.decode.specs.Decoding.{judgeDecoding, decodeLengths, Decoded, settled, message, none}
 use Rattle.verdict.specs.Verdicts.{numbersOf}
 use Rattle.queries.specs.Distinct.{distinct}
 use Rattle.queries.specs.Queries.{queriesOk, judgeQueries}
 use Rattle.verify.specs.Verifying.{verification, judgeVerifying, openedLengths}
-use Rattle.laws.specs.Calls.{LegalRow, foldedLevel}
+use Rattle.laws.specs.Calls.{foldedLevel}
 use Rattle.laws.specs.Folds.{fold-law}
 use Rattle.rounds.specs.Opening.{openingWords}
 use Rattle.open.specs.Writing.{valueWord}

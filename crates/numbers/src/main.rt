@@ -20,4 +20,13 @@ fn main() {
     numbers_places::pairs();
     numbers_places::folds();
     numbers_places::claims();
+    numbers_second::readings();
+    numbers_second::ranges();
+    numbers_second::transforms();
+    numbers_second::evaluations();
+    numbers_second::encodings();
+    numbers_second::decodings();
+    numbers_filled::verdicts();
+    numbers_filled::filled();
+    numbers_filled::not_filled();
 }

@@ -1,5 +1,5 @@
 // Openings, with the places that a failure names.
-use tvarchula::answer::Reply;
+use reply::answer::Reply;
 use tvarchula::opening;
 
 pub mod openings;
@@ -95,7 +95,20 @@ fn write(opened: &mut [u32], y: &mut u32) -> u32 {
     let z = [5u32, 6];
     let r = [7u32, 8];
     let mut work = [0u32; 8];
-    opening::tv_write_opening(2, 2, &g, &t, &t2, &message, &z, &r, opened, &mut work, y).number
+    opening::tv_write_opening(
+        false,
+        2,
+        2,
+        &g,
+        &t,
+        &t2,
+        &message,
+        &z,
+        &r,
+        opened,
+        &mut work,
+        y,
+    ).number
 }
 
 // An opening at depth 2, written, and the value that comes with it.

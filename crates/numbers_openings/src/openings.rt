@@ -4,8 +4,8 @@ ghost use mathlib.Core.List.{[], _∷_};
 ghost use Rattle.algebra.specs.Words.{𝔽₁};
 ghost use Rattle.verdict.specs.Verdicts.{numbersOf};
 ghost use Rattle.verify.specs.Verifying.{verification};
-ghost use Rattle.tvarchula.specs.Replies.{triple};
-use tvarchula::answer::Reply;
+ghost use Rattle.reply.specs.Replies.{triple};
+use reply::answer::Reply;
 use tvarchula::opening;
 
 // A message of one word, 9.
@@ -17,6 +17,7 @@ pub fn depth_0(y: u32, queries: &[u32]) -> Reply
     let block = [9u32, 9];
     let opened = [9u32];
     opening::tv_verify_opening(
+        false,
         0,
         2,
         &g,
@@ -41,7 +42,20 @@ pub fn depth_1(z: u32, y: u32, r: u32, queries: &[u32], opened: &[u32]) -> Reply
     let block = [19u32, 26, 2147483638, 2147483631];
     let zs = [z];
     let rs = [r];
-    opening::tv_verify_opening(1, 2, &g, &t, &t2, &block, &zs, y, &rs, queries, opened)
+    opening::tv_verify_opening(
+        false,
+        1,
+        2,
+        &g,
+        &t,
+        &t2,
+        &block,
+        &zs,
+        y,
+        &rs,
+        queries,
+        opened,
+    )
 }
 
 // The opening of 1 + 2 X_0 + 3 X_1 + 4 X_0 X_1 at (5, 6) with one query.
@@ -55,5 +69,18 @@ pub fn depth_2(query: u32, opened: &[u32]) -> Reply
     let z = [5u32, 6];
     let r = [7u32, 8];
     let queries = [query];
-    opening::tv_verify_opening(2, 2, &g, &t, &t2, &block, &z, 149, &r, &queries, opened)
+    opening::tv_verify_opening(
+        false,
+        2,
+        2,
+        &g,
+        &t,
+        &t2,
+        &block,
+        &z,
+        149,
+        &r,
+        &queries,
+        opened,
+    )
 }

@@ -5,7 +5,10 @@ use tvarchula::coding;
 // A message of four words at rate 2.
 fn encode(text: &[u8], g: &[u32], t: &[u32], t2: &[u32], message: &[u32]) {
     let mut block = [0u32; 8];
-    numbers_openings::verdict(text, coding::tv_encode(2, 2, g, t, t2, message, &mut block));
+    numbers_openings::verdict(
+        text,
+        coding::tv_encode(false, 2, 2, g, t, t2, message, &mut block),
+    );
 }
 
 fn words(text: &[u8], t: &[u32], t2: &[u32]) {
@@ -44,7 +47,7 @@ fn fold(text: &[u8], challenge: u32, block: &[u32]) {
     let mut folded = [0u32; 2];
     numbers_openings::verdict(
         text,
-        coding::tv_fold(1, 2, &t, &t2, block, challenge, &mut folded),
+        coding::tv_fold(false, 1, 2, &t, &t2, block, challenge, &mut folded),
     );
 }
 

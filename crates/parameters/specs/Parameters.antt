@@ -4,9 +4,10 @@ use mathlib.Core.Bool.{Bool, true, _&&_}
 use mathlib.Core.List.{List, [], _∷_, _++_}
 use Prim.Native.Nat.{ℕ}
 use lib.Dec.{eqb}
+use lib.ListN.{length}
 use Rattle.algebra.specs.Words.{PrimeField}
 use Rattle.job.specs.declared.Input.the-variants.{G, T, T2}
-use Rattle.job.specs.Outcome.{Outcome, require, unless, _⨾_}
+use Rattle.job.specs.Outcome.{Outcome, done, require, unless, _⨾_}
 use Rattle.job.specs.Limits.{depthOk, rateOk, diagonalsSize}
 use Rattle.words.specs.Scans.{allBelow, allDiffer}
 use Rattle.places.specs.Inputs.{Lent, inOrder, judgeWords, noZero, noEqual, Short}
@@ -42,6 +43,13 @@ module _ (𝓕 : PrimeField) where
 
   unfoldable pub rowWords : List ℕ → List ℕ → List ℕ → Bool
   rowWords g t t' = allBelow 𝓕 g && (allBelow 𝓕 t && allBelow 𝓕 t')
+
+  -- no refusal is due for depth, rate, row and diagonals
+  pub record LegalRow (d c : ℕ) (g t t' : List ℕ) : Type 0 where
+    pub within : limits d c ≡ done tt
+    pub lengths : rowLengths d c (length g) (length t) (length t') ≡ true
+    pub words : rowWords g t t' ≡ true
+    pub legal : legalRow g t t' ≡ done tt
 
   -- what one pass over them finds: the flags for 4 and 6, where the lengths are right
   pub record RowScanned (lengths : Bool) (g t t' : List ℕ) (words apart : Bool) : Type 0 where

@@ -1,6 +1,6 @@
 -- 4 names the first word that is not below the modulus, 5 the first zero and 6 the first equal pair, and each is due exactly where there is one. Assumes nothing.
 use mathlib.Core.Path.{_≡_, refl, sym, ap, _∙_}
-use mathlib.Core.Bool.{Bool, true, false, _&&_, not, false≢true}
+use mathlib.Core.Bool.{Bool, true, false, not, false≢true}
 use mathlib.Core.Logic.{_↔_}
 use mathlib.Core.List.{List, [], _∷_}
 use Prim.Native.Nat.{ℕ, zero, suc, _<_, _≤_, min}
@@ -97,17 +97,6 @@ module _ (𝓕 : PrimeField) where
     λ e. let a = from-second sizes (λ h. omega (arith, low (4, _, _) h)) e in (a .0, word-named xs .0 (from-first (judgeWords 𝓕 xs) none (a .1))),
     λ h. rw (h .0, word-named xs .1 (h .1)),
   )
-
-  -- nothing is refused exactly where every word of every input is below the modulus
-  pub no-word : (xs : List Lent) → (judgeWords 𝓕 xs ≡ done tt) ↔ (all under xs ≡ true)
-  unfolding all
-  no-word [] = (λ e. refl, λ e. refl)
-  no-word (x ∷ xs) = go (under x) _ (no-word xs)
-    where
-      go : (b : Bool) (n : Numbers) → (judgeWords 𝓕 xs ≡ done tt) ↔ (all under xs ≡ true)
-          → (demand b n ⨾ judgeWords 𝓕 xs ≡ done tt) ↔ ((b && all under xs) ≡ true)
-      go true n later = later
-      go false n later = (λ e. absurd (let z : _≡_ {A = ℕ} 0 1 = cc in omega arith), λ e. absurd (false≢true e))
 
 -- a test that fails names the first place that does, and no other
 module _ (b : Bool) (passes : ℕ → Bool) (m a : ℕ) (held : b ≡ true → AllPass passes m) (broken : b ≡ false → First passes m (firstPlace passes m)) where

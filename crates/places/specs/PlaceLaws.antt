@@ -3,7 +3,7 @@ use mathlib.Core.Path.{_≡_, refl, sym, ap, _∙_}
 use mathlib.Core.Bool.{Bool, true, false, cond, false≢true}
 use mathlib.Core.Logic.{_↔_, _⊎_, inl, inr, ⊎-elim}
 use mathlib.Core.List.{List}
-use Prim.Native.Nat.{ℕ, zero, suc, _<_, _≤_, min}
+use Prim.Native.Nat.{ℕ, zero, suc, _≤_, min}
 use native.Mathlib.Omega.{arith}
 use lib.ListN.{length, getD}
 use Rattle.algebra.specs.Order.{lt-or-ge}
@@ -31,10 +31,6 @@ module _ {passes : ℕ → Bool} {n : ℕ} where
   -- a place that fails is not among those that pass
   fails-past : {k : ℕ} → First passes n k → {m : ℕ} → AllPass passes m → m ≤ k
   fails-past {k} f {m} h = ⊎-elim (λ l. absurd (false≢true (sym (f .failing) ∙ h k l))) (λ l. l) (lt-or-ge k m)
-
-  -- where the search ends below n, it has found the first place that fails
-  pub first-found : firstPlace passes n < n → First passes n (firstPlace passes n)
-  first-found l = ⊎-elim (λ f. f) (λ h. absurd (omega arith)) (searched passes n)
 
   -- whatever is first is what it finds
   pub first-only : {k : ℕ} → First passes n k → k ≡ firstPlace passes n

@@ -1,14 +1,13 @@
 -- The job of filling: which rates have a rule, its answer, and what it leaves in the three slices, for every input. Definitions only. Assumes nothing.
 use mathlib.Core.Path.{_≡_}
-use mathlib.Core.Bool.{Bool, true, cond}
+use mathlib.Core.Bool.{Bool, cond}
 use mathlib.Core.List.{List}
 use Prim.Native.Nat.{ℕ, zero, suc, _^_}
 use lib.Dec.{eqb}
 use lib.ListN.{length}
-use Rattle.algebra.specs.Words.{𝔽₂}
 use Rattle.job.specs.declared.Answer.{Answer}
-use Rattle.job.specs.Outcome.{Outcome, done, outcome, require, _⨾_, kept}
-use Rattle.parameters.specs.Parameters.{limits, rowLengths, rowWords, legalRow}
+use Rattle.job.specs.Outcome.{Outcome, outcome, require, _⨾_, kept}
+use Rattle.parameters.specs.Parameters.{limits, rowLengths}
 use Rattle.root_rows.specs.Rule.{onesWords, firstWords, negativeWords}
 
 -- c is a power of two
@@ -39,10 +38,3 @@ pub record RootsFilled (d c : ℕ) (g t t' : List ℕ) (r : Answer) (g₁ t₁ t
   pub row : g₁ ≡ kept (judgeFilling d c (length g) (length t) (length t')) g (onesWords c)
   pub first : t₁ ≡ kept (judgeFilling d c (length g) (length t) (length t')) t (firstWords (exponent c) d)
   pub second : t₁' ≡ kept (judgeFilling d c (length g) (length t) (length t')) t' (negativeWords (firstWords (exponent c) d))
-
--- no job over the second field refuses depth, rate, row or diagonals
-pub record LegalRoots (d c : ℕ) (g t t' : List ℕ) : Type 0 where
-  pub within : limits d c ≡ done tt
-  pub lengths : rowLengths d c (length g) (length t) (length t') ≡ true
-  pub words : rowWords 𝔽₂ g t t' ≡ true
-  pub legal : legalRow g t t' ≡ done tt

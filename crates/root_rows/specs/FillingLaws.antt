@@ -23,12 +23,12 @@ use Rattle.job.specs.OutcomeLaws.{after-done, stop, pass, holds, refuses, held,
 use Rattle.job.specs.Limits.{maxDepth, maxRate, depthOk, rateOk, blockSize, diagonalsSize}
 use Rattle.job.specs.LimitLaws.{depth-most, rate-least, rate-most}
 use Rattle.parameters.specs.Lent.{codeword}
-use Rattle.parameters.specs.Parameters.{limits, rowLengths}
+use Rattle.parameters.specs.Parameters.{limits, rowLengths, LegalRow}
 use Rattle.parameters.specs.ParameterLaws.{limits-done, within, row-lengths}
 use Rattle.root_rows.specs.Rule.{onesWords, Room, ByRule}
 use Rattle.root_rows.specs.RuleLaws.{log-most, root-order, values-rule}
 use Rattle.root_rows.specs.Accepted.{lengths-rule, words-rule, legal-filled}
-use Rattle.root_rows.specs.Filling.{TwoPower, exponentTo, exponent, isTwoPower, judgeFilling, RootsFilled, LegalRoots}
+use Rattle.root_rows.specs.Filling.{TwoPower, exponentTo, exponent, isTwoPower, judgeFilling, RootsFilled}
 
 -- what is found is the exponent, and a power's is found
 pub found : (k c : ℕ) → (exponentTo k c ≡ 0) ⊎ (c ≡ 2 ^ exponentTo k c)
@@ -168,7 +168,7 @@ module _ (d c : ℕ) (g t t' : List ℕ) (r : Answer) (g₁ t₁ t₁' : List �
         }
 
     -- no job refuses what it left
-    pub filled-legal : LegalRoots d c g₁ t₁ t₁'
+    pub filled-legal : LegalRow 𝔽₂ d c g₁ t₁ t₁'
     filled-legal =
         let x = done-exactly .0 e in
         record {

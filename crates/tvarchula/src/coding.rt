@@ -1,13 +1,13 @@
 // Encoding, decoding and folding.
-ghost use Rattle.algebra.specs.Words.{𝔽₁};
-ghost use Rattle.tvarchula.specs.Replies.{EncodeCall, DecodeCall, FoldCall};
-use crate::answer;
-use crate::answer::Reply;
+ghost use Rattle.reply.specs.Replies.{fieldOf, EncodeCall, DecodeCall, FoldCall};
 use code::encode;
-use residue::Field;
+use reply::answer;
+use reply::answer::Reply;
+use reply::field;
 
 #[no_mangle]
 pub extern "C" fn tv_encode(
+    field: bool,
     depth: u32,
     rate: u32,
     g: &[u32],
@@ -16,13 +16,14 @@ pub extern "C" fn tv_encode(
     message: &[u32],
     block: &mut [u32],
 ) -> Reply
-    ensures { λ r. ⌜ EncodeCall 𝔽₁ depth rate (now (g .entry)) (now (t .entry)) (now (t2 .entry)) (now (message .entry)) (now (block .entry)) r (now (block .exit)) ⌝ }
+    ensures { λ r. ⌜ EncodeCall (fieldOf field) depth rate (now (g .entry)) (now (t .entry)) (now (t2 .entry)) (now (message .entry)) (now (block .entry)) r (now (block .exit)) ⌝ }
 {
-    answer::plain(encode::encode(depth, rate, g, t, t2, message, block, Field::First))
+    answer::plain(encode::encode(depth, rate, g, t, t2, message, block, field::named(field)))
 }
 
 #[no_mangle]
 pub extern "C" fn tv_decode(
+    field: bool,
     depth: u32,
     rate: u32,
     g: &[u32],
@@ -32,13 +33,24 @@ pub extern "C" fn tv_decode(
     message: &mut [u32],
     work: &mut [u32],
 ) -> Reply
-    ensures { λ r. ⌜ DecodeCall 𝔽₁ depth rate (now (g .entry)) (now (t .entry)) (now (t2 .entry)) (now (block .entry)) (now (message .entry)) (now (work .entry)) r (now (message .exit)) (now (work .exit)) ⌝ }
+    ensures { λ r. ⌜ DecodeCall (fieldOf field) depth rate (now (g .entry)) (now (t .entry)) (now (t2 .entry)) (now (block .entry)) (now (message .entry)) (now (work .entry)) r (now (message .exit)) (now (work .exit)) ⌝ }
 {
-    answer::plain(decode::decode::decode(depth, rate, g, t, t2, block, message, work, Field::First))
+    answer::plain(decode::decode::decode(
+        depth,
+        rate,
+        g,
+        t,
+        t2,
+        block,
+        message,
+        work,
+        field::named(field),
+    ))
 }
 
 #[no_mangle]
 pub extern "C" fn tv_fold(
+    field: bool,
     level: u32,
     rate: u32,
     t: &[u32],
@@ -47,7 +59,16 @@ pub extern "C" fn tv_fold(
     challenge: u32,
     folded: &mut [u32],
 ) -> Reply
-    ensures { λ r. ⌜ FoldCall 𝔽₁ level rate (now (t .entry)) (now (t2 .entry)) (now (block .entry)) challenge (now (folded .entry)) r (now (folded .exit)) ⌝ }
+    ensures { λ r. ⌜ FoldCall (fieldOf field) level rate (now (t .entry)) (now (t2 .entry)) (now (block .entry)) challenge (now (folded .entry)) r (now (folded .exit)) ⌝ }
 {
-    answer::plain(fold::fold(level, rate, t, t2, block, challenge, folded, Field::First))
+    answer::plain(fold::fold(
+        level,
+        rate,
+        t,
+        t2,
+        block,
+        challenge,
+        folded,
+        field::named(field),
+    ))
 }

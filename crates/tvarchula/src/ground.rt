@@ -1,86 +1,64 @@
 // Clearances, tables and evaluation.
 ghost use mathlib.Core.Path.{_≡_};
-ghost use Rattle.algebra.specs.Words.{𝔽₁};
-ghost use Rattle.clearance.specs.Reading.{reading};
-ghost use Rattle.job.specs.Outcome.{due};
-ghost use Rattle.tvarchula.specs.Replies.{triple, readingReply, ToCoefficientsCall, ToTableCall, EvaluateCall};
-use crate::answer;
-use crate::answer::Reply;
-use clearance::reading::Reading;
-use job::Refusal;
+ghost use Rattle.clearance.specs.Reading.{reading as readingOf};
+ghost use Rattle.reply.specs.Replies.{fieldOf, readingReply, ToCoefficientsCall, ToTableCall, EvaluateCall};
 use polynomial::Evaluation;
-use residue::Field;
+use reply::answer;
+use reply::answer::Reply;
+use reply::field;
+use reply::reading;
+use reply::reading::ReadingReply;
 
-// kind is 1 for free, 2 for an overlap, 3 for contact, whose amount is 0; kind and amount are 0 where the word is refused.
-#[repr(C)]
-pub struct ReadingReply {
-    pub answer: Reply,
-    pub kind: u32,
-    pub amount: u32,
-}
-
-fn read_as(kind: u32, amount: u32) -> ReadingReply
-    ensures { λ r. ⌜ r ≡ record { answer = triple (0, 0, 0); kind = kind; amount = amount } ⌝ }
+#[no_mangle]
+pub extern "C" fn tv_read_clearance(field: bool, word: u32) -> ReadingReply
+    ensures { λ r. ⌜ r ≡ readingReply (readingOf (fieldOf field) word) ⌝ }
 {
-    let done = Reply {
-        number: 0,
-        first: 0,
-        second: 0,
-    };
-    ReadingReply {
-        answer: done,
-        kind: kind,
-        amount: amount,
-    }
-}
-
-fn not_read(refusal: Refusal) -> ReadingReply
-    ensures { λ r. ⌜ r ≡ record { answer = triple (due refusal); kind = 0; amount = 0 } ⌝ }
-{
-    let answer = answer::refused(refusal);
-    ReadingReply {
-        answer: answer,
-        kind: 0,
-        amount: 0,
-    }
+    reading::told(clearance::reading::read_clearance(word, field::named(field)))
 }
 
 #[no_mangle]
-pub extern "C" fn tv_read_clearance(word: u32) -> ReadingReply
-    ensures { λ r. ⌜ r ≡ readingReply (reading 𝔽₁ word) ⌝ }
+pub extern "C" fn tv_table_to_coefficients(
+    field: bool,
+    clearances: &[i32],
+    message: &mut [u32],
+) -> Reply
+    ensures { λ r. ⌜ ToCoefficientsCall (fieldOf field) (now (clearances .entry)) (now (message .entry)) (now (message .exit)) r ⌝ }
 {
-    let r = clearance::reading::read_clearance(word, Field::First);
-    match r {
-        Reading::Free(n) => read_as(1, n),
-        Reading::Contact => read_as(3, 0),
-        Reading::Overlap(n) => read_as(2, n),
-        Reading::Refused(r) => not_read(r),
-    }
-}
-
-#[no_mangle]
-pub extern "C" fn tv_table_to_coefficients(clearances: &[i32], message: &mut [u32]) -> Reply
-    ensures { λ r. ⌜ ToCoefficientsCall 𝔽₁ (now (clearances .entry)) (now (message .entry)) (now (message .exit)) r ⌝ }
-{
-    answer::plain(table::to_coefficients::table_to_coefficients(clearances, message, Field::First))
+    answer::plain(table::to_coefficients::table_to_coefficients(
+        clearances,
+        message,
+        field::named(field),
+    ))
 }
 
 #[no_mangle]
 pub extern "C" fn tv_coefficients_to_table(
+    field: bool,
     message: &[u32],
     clearances: &mut [i32],
     work: &mut [u32],
 ) -> Reply
-    ensures { λ r. ⌜ ToTableCall 𝔽₁ (now (message .entry)) (now (clearances .entry)) (now (clearances .exit)) (now (work .entry)) (now (work .exit)) r ⌝ }
+    ensures { λ r. ⌜ ToTableCall (fieldOf field) (now (message .entry)) (now (clearances .entry)) (now (clearances .exit)) (now (work .entry)) (now (work .exit)) r ⌝ }
 {
-    answer::plain(table::to_table::coefficients_to_table(message, clearances, work, Field::First))
+    answer::plain(table::to_table::coefficients_to_table(
+        message,
+        clearances,
+        work,
+        field::named(field),
+    ))
 }
 
 #[no_mangle]
-pub extern "C" fn tv_evaluate(depth: u32, message: &[u32], z: &[u32], value: &mut u32) -> Reply
-    ensures { λ r. ⌜ EvaluateCall 𝔽₁ depth (now (message .entry)) (now (z .entry)) (now (value .entry)) r (now (value .exit)) ⌝ }
+pub extern "C" fn tv_evaluate(
+    field: bool,
+    depth: u32,
+    message: &[u32],
+    z: &[u32],
+    value: &mut u32,
+) -> Reply
+    ensures { λ r. ⌜ EvaluateCall (fieldOf field) depth (now (message .entry)) (now (z .entry)) (now (value .entry)) r (now (value .exit)) ⌝ }
 {
-    let e = polynomial::evaluate(depth, message, z, Field::First);
+    let e = polynomial::evaluate(depth, message, z, field::named(field));
     match e {
         Evaluation::Value(v) => {
             *value = v;

@@ -1,19 +1,17 @@
 // Writing and verifying an opening.
 ghost use mathlib.Core.Path.{_≡_};
-ghost use Rattle.algebra.specs.Words.{𝔽₁};
-ghost use Rattle.verdict.specs.Verdicts.{numbers, numbersOf};
+ghost use Rattle.verdict.specs.Verdicts.{numbersOf};
 ghost use Rattle.verify.specs.Verifying.{verification};
-ghost use Rattle.tvarchula.specs.Replies.{triple, WriteCall};
-use crate::answer;
-use crate::answer::Reply;
+ghost use Rattle.reply.specs.Replies.{fieldOf, triple, WriteCall};
 use open::Written;
-use residue::Field;
-use verify::Failure;
-use verify::Outcome;
-use verify::Verdict;
+use reply::answer;
+use reply::answer::Reply;
+use reply::field;
+use reply::verifying;
 
 #[no_mangle]
 pub extern "C" fn tv_write_opening(
+    field: bool,
     depth: u32,
     rate: u32,
     g: &[u32],
@@ -26,7 +24,7 @@ pub extern "C" fn tv_write_opening(
     work: &mut [u32],
     value: &mut u32,
 ) -> Reply
-    ensures { λ a. ⌜ WriteCall 𝔽₁ depth rate (now (g .entry)) (now (t .entry)) (now (t2 .entry)) (now (message .entry)) (now (z .entry)) (now (r .entry)) (now (opening .entry)) (now (work .entry)) (now (value .entry)) a (now (opening .exit)) (now (work .exit)) (now (value .exit)) ⌝ }
+    ensures { λ a. ⌜ WriteCall (fieldOf field) depth rate (now (g .entry)) (now (t .entry)) (now (t2 .entry)) (now (message .entry)) (now (z .entry)) (now (r .entry)) (now (opening .entry)) (now (work .entry)) (now (value .entry)) a (now (opening .exit)) (now (work .exit)) (now (value .exit)) ⌝ }
 {
     let w = open::write_opening(
         depth,
@@ -39,7 +37,7 @@ pub extern "C" fn tv_write_opening(
         r,
         opening,
         work,
-        Field::First,
+        field::named(field),
     );
     match w {
         Written::Value(v) => {
@@ -54,51 +52,9 @@ pub extern "C" fn tv_write_opening(
     }
 }
 
-// The number of a check that failed, and its places.
-fn failed(f: Failure) -> Reply
-    ensures { λ a. ⌜ a ≡ triple (numbers (record { outcome = Outcome.Rejected f })) ⌝ }
-{
-    match f {
-        Failure::Sum(i) => Reply {
-            number: 20,
-            first: i,
-            second: 0,
-        },
-        Failure::Final => Reply {
-            number: 21,
-            first: 0,
-            second: 0,
-        },
-        Failure::Base(j) => Reply {
-            number: 22,
-            first: j,
-            second: 0,
-        },
-        Failure::Fold(q, i) => Reply {
-            number: 23,
-            first: q,
-            second: i,
-        },
-    }
-}
-
-fn told(v: Verdict) -> Reply
-    ensures { λ a. ⌜ a ≡ triple (numbers v) ⌝ }
-{
-    let o = v.outcome;
-    match o {
-        Outcome::Accepted => Reply {
-            number: 0,
-            first: 0,
-            second: 0,
-        },
-        Outcome::Rejected(f) => failed(f),
-        Outcome::Refused(n) => answer::refused(n),
-    }
-}
-
 #[no_mangle]
 pub extern "C" fn tv_verify_opening<'a>(
+    field: bool,
     depth: u32,
     rate: u32,
     g: &[u32],
@@ -111,9 +67,9 @@ pub extern "C" fn tv_verify_opening<'a>(
     queries: &[u32],
     opening: &'a [u32],
 ) -> Reply
-    ensures { λ a. ⌜ a ≡ triple (numbersOf (verification 𝔽₁ depth rate (now (g .entry)) (now (t .entry)) (now (t2 .entry)) (now (block .entry)) (now (z .entry)) y (now (r .entry)) (now (queries .entry)) (now (opening .entry)))) ⌝ }
+    ensures { λ a. ⌜ a ≡ triple (numbersOf (verification (fieldOf field) depth rate (now (g .entry)) (now (t .entry)) (now (t2 .entry)) (now (block .entry)) (now (z .entry)) y (now (r .entry)) (now (queries .entry)) (now (opening .entry)))) ⌝ }
 {
-    told(verify::verify_opening(
+    verifying::told(verify::verify_opening(
         depth,
         rate,
         g,
@@ -125,6 +81,6 @@ pub extern "C" fn tv_verify_opening<'a>(
         r,
         queries,
         opening,
-        Field::First,
+        field::named(field),
     ))
 }

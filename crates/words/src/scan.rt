@@ -5,6 +5,7 @@ ghost use Prim.Native.Nat.{_<_, _≤_};
 ghost use lib.Dec.{ltb};
 ghost use lib.ListN.{length, take};
 ghost use Rattle.residue.specs.Chosen.{chosen};
+ghost use Rattle.residue.specs.Elements.{P};
 ghost use Rattle.words.specs.Scans.{allUnder, allBelow, noneZero, PlacesScanned, PairScanned};
 use residue::Field;
 use residue::Residue;
@@ -97,13 +98,24 @@ fn scan_places(n: usize, s: &[u32], t: &[u32], p: u32) -> PairScan
     }
 }
 
+// For each field by itself: a test against a number that is known when this is compiled takes fewer steps.
+fn scan_known(n: usize, s: &[u32], t: &[u32], field: Field) -> PairScan
+    requires { ⌜ (n ≤ length (now s)) × (n ≤ length (now t)) ⌝ }
+    ensures { λ r. ⌜ PlacesScanned (P (chosen field)) (take n (now (s .entry))) (take n (now (t .entry))) (r .below) (r .apart) ⌝ }
+{
+    match field {
+        Field::First => scan_places(n, s, t, Residue::MODULUS),
+        Field::Second => scan_places(n, s, t, Residue::SECOND_MODULUS),
+    }
+}
+
 // Where one slice is longer, the rest of it is read too.
 pub fn scan_pair(s: &[u32], t: &[u32], field: Field) -> PairScan
     ensures { λ r. ⌜ PairScanned (chosen field) (now (s .entry)) (now (t .entry)) (r .below) (r .apart) ⌝ }
 {
     let p = Residue::modulus(field);
     let n = shorter(s.len(), t.len());
-    let places = scan_places(n, s, t, p);
+    let places = scan_known(n, s, t, field);
     let first = all_under(&s[n..], p);
     let second = all_under(&t[n..], p);
     PairScan {

@@ -3,7 +3,7 @@
 /// The number, and the places that it names, else zeros.
 #[derive(Clone, Copy, PartialEq, Eq, Debug)]
 pub struct Answer {
-    /// 0 is done or accepted, 1 to 9 and 11 a refusal, 20 to 23 a failed check.
+    /// 0 is done or accepted, 1 to 9, 11 and 12 a refusal, 20 to 23 a failed check.
     pub number: u32,
     /// 4, 5 and 6: the index. 20: i. 22: j. 23: the query's position.
     pub first: u32,
@@ -68,6 +68,8 @@ pub enum Refusal {
     Clearance,
     /// A place that stands in the query list more than once.
     Repeated,
+    /// A rate that is no power of two, where filling needs one.
+    NoPowerOfTwo,
 }
 
 impl From<Refusal> for Answer {
@@ -83,6 +85,7 @@ impl From<Refusal> for Answer {
             Refusal::NoCodeword => Answer::at(8, 0, 0),
             Refusal::Clearance => Answer::at(9, 0, 0),
             Refusal::Repeated => Answer::at(11, 0, 0),
+            Refusal::NoPowerOfTwo => Answer::at(12, 0, 0),
         }
     }
 }

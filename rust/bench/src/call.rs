@@ -95,7 +95,7 @@ fn opened(inputs: &Inputs) -> Opened<'_> {
         z: &inputs.z,
         y: inputs.y,
         r: &inputs.r,
-        queries: &inputs.queries,
+        queries: inputs.next_queries(),
         opening: &inputs.opening,
     }
 }

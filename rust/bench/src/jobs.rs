@@ -41,17 +41,17 @@ pub trait Jobs {
     fn verify_opening(code: &Code<'_>, lent: &Opened<'_>) -> Answer;
 }
 
-/// Plain Rust, with a reduction of products and a way to invert the differences of diagonals.
+/// Plain Rust, with a field and the reduction of its products, and a way to invert the differences of diagonals.
 #[derive(Clone, Copy, Debug)]
 pub struct Plain<R = Mersenne, I = OneChain>(PhantomData<(R, I)>);
 
 impl<R: Reduce, I: Invert> Jobs for Plain<R, I> {
     fn table_to_coefficients(clearances: &[i32], message: &mut [u32]) -> Answer {
-        plain::table_to_coefficients(clearances, message).into()
+        plain::table_to_coefficients::<R>(clearances, message).into()
     }
 
     fn coefficients_to_table(message: &[u32], table: &mut [i32], work: &mut [u32]) -> Answer {
-        plain::coefficients_to_table(message, table, work).into()
+        plain::coefficients_to_table::<R>(message, table, work).into()
     }
 
     fn evaluate(depth: u32, message: &[u32], z: &[u32], value: &mut u32) -> Answer {

@@ -2,10 +2,13 @@
 
 use crate::call::Job;
 use crate::sizes::WORD;
+use std::cell::Cell;
 
 /// Everything that some job reads. Each job takes its own part.
 #[derive(Clone, Debug)]
 pub struct Inputs {
+    /// The modulus of the field.
+    pub p: u32,
     /// The depth; for folding the upper level.
     pub depth: u32,
     /// The rate.
@@ -36,11 +39,25 @@ pub struct Inputs {
     pub r: Vec<u32>,
     /// The places that a verifier looks at.
     pub queries: Vec<u32>,
+    /// More such lists. Calls take all of them in turns.
+    pub more_queries: Vec<Vec<u32>>,
+    /// How many calls have taken a list.
+    pub turn: Cell<usize>,
     /// An opening of the message at the point under the challenges.
     pub opening: Vec<u32>,
 }
 
 impl Inputs {
+    /// The list whose turn it is.
+    pub fn next_queries(&self) -> &[u32] {
+        let turn = self.turn.get();
+        self.turn.set(turn.wrapping_add(1));
+        match turn % (1 + self.more_queries.len()) {
+            0 => &self.queries,
+            more => &self.more_queries[more - 1],
+        }
+    }
+
     /// Bytes of all slices that a job reads. Single words are not counted.
     pub fn bytes(&self, job: Job) -> usize {
         let code = self.g.len() + self.t.len() + self.t2.len();

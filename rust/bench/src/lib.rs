@@ -1,12 +1,13 @@
 //! The library's jobs beside the same jobs in plain Rust.
 //!
 //! [`plain`] works as the library does, pass by pass and in the same lent buffers, but is written
-//! as anybody would write it who has nothing to prove. Both are [`Jobs`]; [`call()`] calls one job
-//! of either on the same [`Inputs`] and [`Buffers`]. The program times the two side by side, and the
+//! as anybody would write it who has nothing to prove. Both are [`Jobs`], over either field; [`call()`] calls
+//! one job of either on the same [`Inputs`] and [`Buffers`]. The program times the two side by side, and the
 //! tests compare their answers and all words that they write.
 
 mod answer;
 mod call;
+mod filling;
 mod jobs;
 mod lent;
 mod linked;
@@ -17,6 +18,7 @@ mod sizes;
 
 pub use answer::{Answer, Code, Failure, Input, Refusal};
 pub use call::{call, Call, Job};
+pub use filling::Filling;
 pub use jobs::{Jobs, Outputs, Plain};
 pub use lent::{Buffers, Inputs};
 #[cfg(before)]
@@ -24,3 +26,4 @@ pub use linked::Before;
 pub use linked::Library;
 pub use products::Products;
 pub use sizes::{Sizes, MAX_DEPTH, MAX_QUERIES};
+pub use tvarchula_sys::{TV_FIELD_1, TV_FIELD_2};

@@ -1,4 +1,4 @@
-//! Times the static library against plain Rust and prints the tables as one Markdown document.
+//! Times the static library against plain Rust over both fields and prints the tables as one Markdown document.
 //!
 //! `--quick` takes few samples, to see that everything runs and that both sides write the same
 //! words. `--depths 10,14,16` names the depths, each 1 to 20; `--rate 8` the rate, 2 to 16.

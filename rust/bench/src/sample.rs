@@ -3,8 +3,9 @@
 use crate::call::{call, Job};
 use crate::jobs::Plain;
 use crate::lent::{Buffers, Inputs};
-use crate::plain::{MAX_CLEARANCE, P};
+use crate::plain::Reduce;
 use crate::sizes::Sizes;
+use std::cell::Cell;
 
 /// A small generator (splitmix64).
 struct Rng(u64);
@@ -18,54 +19,68 @@ impl Rng {
         ((z ^ (z >> 31)) % bound as u64) as usize
     }
 
-    fn word(&mut self) -> u32 {
-        self.below(P as usize) as u32
+    fn word<R: Reduce>(&mut self) -> u32 {
+        self.below(R::P as usize) as u32
     }
 
-    fn words(&mut self, count: usize) -> Vec<u32> {
-        (0..count).map(|_| self.word()).collect()
+    fn words<R: Reduce>(&mut self, count: usize) -> Vec<u32> {
+        (0..count).map(|_| self.word::<R>()).collect()
     }
 
-    fn clearance(&mut self) -> i32 {
-        self.word() as i32 - MAX_CLEARANCE
+    /// So many different places of all.
+    fn places(&mut self, count: usize, all: usize) -> Vec<u32> {
+        let mut drawn = Vec::new();
+        while drawn.len() < count {
+            let place = self.below(all) as u32;
+            if !drawn.contains(&place) {
+                drawn.push(place);
+            }
+        }
+        drawn
+    }
+
+    fn clearance<R: Reduce>(&mut self) -> i32 {
+        self.word::<R>() as i32 - R::MAX_CLEARANCE
     }
 }
 
 impl Inputs {
-    /// Legal inputs of all jobs that belong together: a table, its coefficients, their codeword, and
-    /// an opening that is accepted. Depth and rate are legal.
-    pub fn drawn(sizes: Sizes, queries: usize) -> Inputs {
-        let mut inputs = random(sizes);
+    /// Legal inputs of all jobs over one field that belong together: a table, its coefficients, their codeword,
+    /// and an opening that is accepted. Depth and rate are legal.
+    pub fn drawn<R: Reduce>(sizes: Sizes, queries: usize) -> Inputs {
+        let mut inputs = random::<R>(sizes);
         inputs.draw_queries(queries);
-        inputs.message = written(Job::ToCoefficients, &inputs).result;
+        inputs.message = written::<R>(Job::ToCoefficients, &inputs).result;
         inputs.block = vec![0; sizes.block(sizes.depth)];
-        inputs.block = written(Job::Encode, &inputs).result;
+        inputs.block = written::<R>(Job::Encode, &inputs).result;
         inputs.opening = vec![0; sizes.opening()];
-        let Buffers { result, value, .. } = written(Job::Write, &inputs);
+        let Buffers { result, value, .. } = written::<R>(Job::Write, &inputs);
         (inputs.opening, inputs.y) = (result, value);
         inputs
     }
 
     /// Another query list, of so many different places, or of all where there are no more.
     pub fn draw_queries(&mut self, count: usize) {
+        self.draw_query_lists(1, count);
+    }
+
+    /// Several such lists, for calls to take in turns.
+    pub fn draw_query_lists(&mut self, lists: usize, count: usize) {
         let places = self.fold_t.len();
         let mut rng = Rng(7);
-        self.queries.clear();
-        while self.queries.len() < count.min(places) {
-            let place = rng.below(places) as u32;
-            if !self.queries.contains(&place) {
-                self.queries.push(place);
-            }
-        }
+        let mut lists = (0..lists).map(|_| rng.places(count.min(places), places));
+        self.queries = lists.next().unwrap_or_default();
+        self.more_queries = lists.collect();
+        self.turn = Cell::default();
     }
 }
 
 /// What does not follow from something else.
-fn random(sizes: Sizes) -> Inputs {
+fn random<R: Reduce>(sizes: Sizes) -> Inputs {
     let mut rng = Rng((sizes.depth * 100 + sizes.rate) as u64);
-    let t = rng.words(sizes.diagonals());
+    let t = rng.words::<R>(sizes.diagonals());
     // Never 0 and never p, so the two diagonals differ in every place.
-    let step = |t: &u32| (*t + 1 + rng.below(P as usize - 1) as u32) % P;
+    let step = |t: &u32| (*t + 1 + rng.below(R::P as usize - 1) as u32) % R::P;
     let t2: Vec<u32> = t.iter().map(step).collect();
     let highest = t.len()
         - if sizes.depth == 0 {
@@ -74,10 +89,11 @@ fn random(sizes: Sizes) -> Inputs {
             sizes.block(sizes.depth - 1)
         };
     Inputs {
+        p: R::P,
         depth: sizes.depth as u32,
         rate: sizes.rate as u32,
         g: rng
-            .words(sizes.rate)
+            .words::<R>(sizes.rate)
             .into_iter()
             .map(|w| w.max(1))
             .collect(),
@@ -85,22 +101,24 @@ fn random(sizes: Sizes) -> Inputs {
         fold_t2: t2[highest..].to_vec(),
         t,
         t2,
-        challenge: rng.word(),
-        clearances: (0..sizes.message()).map(|_| rng.clearance()).collect(),
+        challenge: rng.word::<R>(),
+        clearances: (0..sizes.message()).map(|_| rng.clearance::<R>()).collect(),
         message: Vec::new(),
         block: Vec::new(),
-        z: rng.words(sizes.depth),
+        z: rng.words::<R>(sizes.depth),
         y: 0,
-        r: rng.words(sizes.depth),
+        r: rng.words::<R>(sizes.depth),
         queries: Vec::new(),
+        more_queries: Vec::new(),
+        turn: Cell::default(),
         opening: Vec::new(),
     }
 }
 
 /// What plain Rust writes. It is the library's word too: the tests compare both.
-fn written(job: Job, inputs: &Inputs) -> Buffers {
+fn written<R: Reduce>(job: Job, inputs: &Inputs) -> Buffers {
     let mut buffers = Buffers::of(job, inputs);
-    let answer = call::<Plain>(job, inputs, &mut buffers);
+    let answer = call::<Plain<R>>(job, inputs, &mut buffers);
     assert_eq!(answer.number, 0, "drawn inputs are legal");
     buffers
 }

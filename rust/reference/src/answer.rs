@@ -5,7 +5,7 @@ use std::fmt;
 /// The answer of a job: the order's number and its named places, else zeros.
 #[derive(Clone, Copy, PartialEq, Eq, Debug)]
 pub struct Answer {
-    /// 0 is done or accepted, 1 to 9 and 11 a refusal, 20 to 23 a failed check.
+    /// 0 is done or accepted, 1 to 9, 11 and 12 a refusal, 20 to 23 a failed check.
     pub number: u32,
     /// 4: the index of the word. 5: that of the zero. 6: that of the equal pair. 20: i. 22: j. 23: the
     /// query's position.
@@ -94,6 +94,8 @@ pub enum Refusal {
     Clearance,
     /// 11: a place that stands in the query list more than once.
     Repeated,
+    /// 12: a rate to fill that is no power of two.
+    NoPowerOfTwo,
 }
 
 impl From<Refusal> for Answer {
@@ -109,6 +111,7 @@ impl From<Refusal> for Answer {
             Refusal::NoCodeword => (8, 0, 0),
             Refusal::Clearance => (9, 0, 0),
             Refusal::Repeated => (11, 0, 0),
+            Refusal::NoPowerOfTwo => (12, 0, 0),
         };
         Answer {
             number,

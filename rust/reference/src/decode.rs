@@ -4,15 +4,16 @@ use crate::answer::{Answer, Input, Refusal};
 use crate::code::{Code, LentCode};
 use crate::encode::codeword;
 use crate::judge;
+use crate::over;
 use crate::residue::Residue;
 
 /// The message whose codeword a block is, none when it is no codeword.
 ///
 /// If some message has the block as its codeword, undoing the code place by place gives exactly
 /// that message; so the block is a codeword just when the undone message encodes to it.
-pub fn message_of(code: &Code, block: &[Residue]) -> Option<Vec<Residue>> {
+pub fn message_of<const P: u32>(code: &Code<P>, block: &[Residue<P>]) -> Option<Vec<Residue<P>>> {
     let differences = code.t.iter().zip(&code.t2).map(|(&t, &t2)| t2 - t);
-    let inverses: Vec<Residue> = differences
+    let inverses: Vec<Residue<P>> = differences
         .map(|difference| difference.inverse().expect("T and T' differ"))
         .collect();
     let message = undo(code, &inverses, code.sizes.depth, block);
@@ -21,7 +22,12 @@ pub fn message_of(code: &Code, block: &[Residue]) -> Option<Vec<Residue>> {
 
 /// Undoes the code: at each place the slope of the line is Enc(r), its value at 0 is Enc(l).
 /// `inverses` holds 1/(T' - T) in the layout of T.
-fn undo(code: &Code, inverses: &[Residue], level: usize, block: &[Residue]) -> Vec<Residue> {
+fn undo<const P: u32>(
+    code: &Code<P>,
+    inverses: &[Residue<P>],
+    level: usize,
+    block: &[Residue<P>],
+) -> Vec<Residue<P>> {
     if level == 0 {
         let inverse = code.g[0].inverse().expect("no zero in the base row");
         return vec![block[0] * inverse];
@@ -30,24 +36,24 @@ fn undo(code: &Code, inverses: &[Residue], level: usize, block: &[Residue]) -> V
     let inverses_here = &inverses[code.sizes.diagonal(level - 1)];
     let (low, high) = block.split_at(t.len());
     let slope = |j: usize| (high[j] - low[j]) * inverses_here[j];
-    let right: Vec<Residue> = (0..t.len()).map(slope).collect();
-    let left: Vec<Residue> = (0..t.len()).map(|j| low[j] - t[j] * right[j]).collect();
+    let right: Vec<Residue<P>> = (0..t.len()).map(slope).collect();
+    let left: Vec<Residue<P>> = (0..t.len()).map(|j| low[j] - t[j] * right[j]).collect();
     let halves = [&left, &right].map(|half| undo(code, inverses, level - 1, half));
     halves.concat()
 }
 
 /// The decoding job. Refusals 1 to 6 and 8. The work buffer is zero after success and after 8.
 pub fn decode(lent: LentCode, block: &[u32], message: &mut [u32], work: &mut [u32]) -> Answer {
-    try_decode(lent, block, message, work).into()
+    over!(lent.field, P => try_decode::<P>(lent, block, message, work)).into()
 }
 
-fn try_decode(
+fn try_decode<const P: u32>(
     lent: LentCode,
     block: &[u32],
     message: &mut [u32],
     work: &mut [u32],
 ) -> Result<(), Refusal> {
-    let (code, [block]) = lent.judge(
+    let (code, [block]) = lent.judge::<P, 1>(
         |sizes| {
             vec![
                 (block.len(), sizes.top_block()),
@@ -67,14 +73,21 @@ fn try_decode(
 mod tests {
     use super::*;
     use crate::code::tests::sample_code;
+    use crate::field::Field;
+    use crate::over_both;
     use crate::sample::{Rng, STYLES};
     use crate::sizes::Sizes;
 
+    over_both!(codewords_and_every_single_word_moved any_block work_and_result);
+
     /// Solves message * matrix = block by elimination: a second way, without any line.
-    fn message_by_elimination(code: &Code, block: &[Residue]) -> Option<Vec<Residue>> {
+    fn message_by_elimination<const P: u32>(
+        code: &Code<P>,
+        block: &[Residue<P>],
+    ) -> Option<Vec<Residue<P>>> {
         let matrix = code.matrix(code.sizes.depth);
         let unknowns = matrix.len();
-        let equation = |j: usize| -> Vec<Residue> {
+        let equation = |j: usize| -> Vec<Residue<P>> {
             let left = matrix.iter().map(|row| row[j]);
             left.chain([block[j]]).collect()
         };
@@ -100,13 +113,12 @@ mod tests {
         solvable.then(|| equations[..unknowns].iter().map(|e| e[unknowns]).collect())
     }
 
-    #[test]
-    fn codewords_and_every_single_word_moved() {
-        let mut rng = Rng::new(11);
+    fn codewords_and_every_single_word_moved<const P: u32>() {
+        let mut rng = Rng::new(Field::of(P), 11);
         for depth in 0..=3 {
             for rate in [2, 3, 5, 16] {
                 for style in STYLES {
-                    let code = sample_code(&mut rng, Sizes { depth, rate }, style);
+                    let code = sample_code::<P>(&mut rng, Sizes { depth, rate }, style);
                     let message = rng.residues(1 << depth, style);
                     let block = codeword(&code, depth, &message);
                     assert_eq!(message_of(&code, &block), Some(message.clone()));
@@ -122,9 +134,8 @@ mod tests {
         }
     }
 
-    #[test]
-    fn any_block() {
-        let mut rng = Rng::new(12);
+    fn any_block<const P: u32>() {
+        let mut rng = Rng::new(Field::of(P), 12);
         let mut codewords = 0;
         for _ in 0..300 {
             let sizes = Sizes {
@@ -132,7 +143,7 @@ mod tests {
                 rate: 2,
             };
             let style = rng.pick(&STYLES);
-            let code = sample_code(&mut rng, sizes, style);
+            let code = sample_code::<P>(&mut rng, sizes, style);
             let block = rng.residues(sizes.top_block(), STYLES[2]);
             let found = message_of(&code, &block);
             assert_eq!(found, message_by_elimination(&code, &block));
@@ -141,9 +152,9 @@ mod tests {
         assert!(codewords > 0);
     }
 
-    #[test]
-    fn work_and_result() {
+    fn work_and_result<const P: u32>() {
         let lent = LentCode {
+            field: Field::of(P),
             depth: 0,
             rate: 2,
             g: &[1, 2],

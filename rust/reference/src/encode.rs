@@ -3,11 +3,16 @@
 use crate::answer::{Answer, Input, Refusal};
 use crate::code::{times, Code, LentCode};
 use crate::judge;
+use crate::over;
 use crate::residue::Residue;
 use crate::LITERAL_DEPTH;
 
 /// The codeword of a message of a level, literally: the message times the generator matrix.
-pub fn by_matrix(code: &Code, level: usize, message: &[Residue]) -> Vec<Residue> {
+pub fn by_matrix<const P: u32>(
+    code: &Code<P>,
+    level: usize,
+    message: &[Residue<P>],
+) -> Vec<Residue<P>> {
     let matrix = code.matrix(level);
     assert_eq!(matrix.len(), message.len());
     let column = |j| {
@@ -21,14 +26,18 @@ pub fn by_matrix(code: &Code, level: usize, message: &[Residue]) -> Vec<Residue>
 }
 
 /// The same by halves: Enc(l) + T*Enc(r), then Enc(l) + T'*Enc(r).
-pub fn by_halves(code: &Code, level: usize, message: &[Residue]) -> Vec<Residue> {
+pub fn by_halves<const P: u32>(
+    code: &Code<P>,
+    level: usize,
+    message: &[Residue<P>],
+) -> Vec<Residue<P>> {
     if level == 0 {
         return code.g.iter().map(|&g| message[0] * g).collect();
     }
     let (l, r) = message.split_at(message.len() / 2);
     let left = by_halves(code, level - 1, l);
     let right = by_halves(code, level - 1, r);
-    let half = |diagonal: &[Residue]| -> Vec<Residue> {
+    let half = |diagonal: &[Residue<P>]| -> Vec<Residue<P>> {
         let products = times(&right, diagonal);
         left.iter().zip(products).map(|(&a, b)| a + b).collect()
     };
@@ -36,7 +45,11 @@ pub fn by_halves(code: &Code, level: usize, message: &[Residue]) -> Vec<Residue>
 }
 
 /// The codeword of a message of a level.
-pub fn codeword(code: &Code, level: usize, message: &[Residue]) -> Vec<Residue> {
+pub fn codeword<const P: u32>(
+    code: &Code<P>,
+    level: usize,
+    message: &[Residue<P>],
+) -> Vec<Residue<P>> {
     if level <= LITERAL_DEPTH {
         by_matrix(code, level, message)
     } else {
@@ -46,11 +59,15 @@ pub fn codeword(code: &Code, level: usize, message: &[Residue]) -> Vec<Residue> 
 
 /// The encoding job. Refusals 1 to 6.
 pub fn encode(lent: LentCode, message: &[u32], block: &mut [u32]) -> Answer {
-    try_encode(lent, message, block).into()
+    over!(lent.field, P => try_encode::<P>(lent, message, block)).into()
 }
 
-fn try_encode(lent: LentCode, message: &[u32], block: &mut [u32]) -> Result<(), Refusal> {
-    let (code, [message]) = lent.judge(
+fn try_encode<const P: u32>(
+    lent: LentCode,
+    message: &[u32],
+    block: &mut [u32],
+) -> Result<(), Refusal> {
+    let (code, [message]) = lent.judge::<P, 1>(
         |sizes| {
             vec![
                 (message.len(), sizes.message()),
@@ -67,16 +84,19 @@ fn try_encode(lent: LentCode, message: &[u32], block: &mut [u32]) -> Result<(), 
 mod tests {
     use super::*;
     use crate::code::tests::sample_code;
+    use crate::field::Field;
+    use crate::over_both;
     use crate::sample::{Rng, STYLES};
     use crate::sizes::Sizes;
 
-    #[test]
-    fn both_forms_agree() {
-        let mut rng = Rng::new(7);
+    over_both!(both_forms_agree a_call_of_smaller_depth_uses_the_lower_levels);
+
+    fn both_forms_agree<const P: u32>() {
+        let mut rng = Rng::new(Field::of(P), 7);
         for depth in 0..=7 {
             for rate in 2..=16 {
                 for style in STYLES {
-                    let code = sample_code(&mut rng, Sizes { depth, rate }, style);
+                    let code = sample_code::<P>(&mut rng, Sizes { depth, rate }, style);
                     let message = rng.residues(1 << depth, style);
                     let literal = by_matrix(&code, depth, &message);
                     assert_eq!(by_halves(&code, depth, &message), literal);
@@ -85,11 +105,10 @@ mod tests {
         }
     }
 
-    #[test]
-    fn a_call_of_smaller_depth_uses_the_lower_levels() {
-        let mut rng = Rng::new(8);
+    fn a_call_of_smaller_depth_uses_the_lower_levels<const P: u32>() {
+        let mut rng = Rng::new(Field::of(P), 8);
         let sizes = Sizes { depth: 5, rate: 3 };
-        let code = sample_code(&mut rng, sizes, STYLES[0]);
+        let code = sample_code::<P>(&mut rng, sizes, STYLES[0]);
         for depth in 0..5 {
             let lower = Sizes { depth, ..sizes };
             let message = rng.residues(1 << depth, STYLES[0]);

@@ -1,60 +1,61 @@
 //! Folding by one level.
 
 use crate::answer::{Answer, Input, Refusal};
+use crate::code::LentLevel;
 use crate::judge;
+use crate::over;
 use crate::residue::Residue;
 use crate::sizes::Sizes;
 
 /// The value at `a` of the straight line through (x, w) and (x2, w2). The two places must differ:
 /// the inverse of zero is never made up.
-pub fn line(x: Residue, w: Residue, x2: Residue, w2: Residue, a: Residue) -> Residue {
+pub fn line<const P: u32>(
+    x: Residue<P>,
+    w: Residue<P>,
+    x2: Residue<P>,
+    w2: Residue<P>,
+    a: Residue<P>,
+) -> Residue<P> {
     let inverse = (x2 - x).inverse().expect("two different places");
     let slope = (w2 - w) * inverse;
     w + slope * (a - x)
 }
 
 /// The fold of a block by `a`: at `j` the line through `(T[j], w[j])` and `(T'[j], w[j+n])`, at `a`.
-pub fn fold_block(t: &[Residue], t2: &[Residue], block: &[Residue], a: Residue) -> Vec<Residue> {
+pub fn fold_block<const P: u32>(
+    t: &[Residue<P>],
+    t2: &[Residue<P>],
+    block: &[Residue<P>],
+    a: Residue<P>,
+) -> Vec<Residue<P>> {
     let (low, high) = block.split_at(t.len());
     let place = |j: usize| line(t[j], low[j], t2[j], high[j], a);
     (0..t.len()).map(place).collect()
 }
 
-/// The folding job: `level` is the upper level, `t` and `t2` are only the level below's words.
-/// Refusals 1, 2, 3, 4, 6.
-pub fn fold(
-    level: u32,
-    rate: u32,
-    t: &[u32],
-    t2: &[u32],
-    block: &[u32],
-    challenge: u32,
-    out: &mut [u32],
-) -> Answer {
-    try_fold(level, rate, t, t2, block, challenge, out).into()
+/// The folding job. Refusals 1, 2, 3, 4, 6.
+pub fn fold(lent: LentLevel, block: &[u32], challenge: u32, out: &mut [u32]) -> Answer {
+    over!(lent.field, P => try_fold::<P>(lent, block, challenge, out)).into()
 }
 
-fn try_fold(
-    level: u32,
-    rate: u32,
-    t: &[u32],
-    t2: &[u32],
+fn try_fold<const P: u32>(
+    lent: LentLevel,
     block: &[u32],
     challenge: u32,
     out: &mut [u32],
 ) -> Result<(), Refusal> {
-    let depth = judge::upper_level(level)?;
-    let rate = judge::rate(rate)?;
+    let depth = judge::upper_level(lent.level)?;
+    let rate = judge::rate(lent.rate)?;
     let sizes = Sizes { depth, rate };
     let (upper, lower) = (sizes.block(depth), sizes.block(depth - 1));
     judge::lengths(&[
-        (t.len(), lower),
-        (t2.len(), lower),
+        (lent.t.len(), lower),
+        (lent.t2.len(), lower),
         (block.len(), upper),
         (out.len(), lower),
     ])?;
-    let t = judge::words(Input::T, t)?;
-    let t2 = judge::words(Input::T2, t2)?;
+    let t = judge::words::<P>(Input::T, lent.t)?;
+    let t2 = judge::words(Input::T2, lent.t2)?;
     let block = judge::words(Input::Block, block)?;
     let challenge = judge::word(Input::R, challenge)?;
     judge::diagonals(&t, &t2)?;
@@ -67,14 +68,17 @@ mod tests {
     use super::*;
     use crate::code::tests::sample_code;
     use crate::encode::by_matrix;
+    use crate::field::Field;
+    use crate::over_both;
     use crate::sample::{Rng, STYLES};
 
-    #[test]
-    fn the_line_meets_both_places() {
-        let mut rng = Rng::new(9);
+    over_both!(the_line_meets_both_places the_fold_of_a_codeword_encodes_the_folded_message refusals);
+
+    fn the_line_meets_both_places<const P: u32>() {
+        let mut rng = Rng::new(Field::of(P), 9);
         for _ in 0..500 {
             for style in STYLES {
-                let (x, w, w2) = (rng.styled(style), rng.styled(style), rng.styled(style));
+                let (x, w, w2) = (rng.styled::<P>(style), rng.styled(style), rng.styled(style));
                 let x2 = x + Residue::ONE + rng.styled(STYLES[2]);
                 assert_eq!(line(x, w, x2, w2, x), w);
                 assert_eq!(line(x, w, x2, w2, x2), w2);
@@ -87,13 +91,12 @@ mod tests {
         }
     }
 
-    #[test]
-    fn the_fold_of_a_codeword_encodes_the_folded_message() {
-        let mut rng = Rng::new(10);
+    fn the_fold_of_a_codeword_encodes_the_folded_message<const P: u32>() {
+        let mut rng = Rng::new(Field::of(P), 10);
         for depth in 1..=5 {
             for rate in 2..=16 {
                 for style in STYLES {
-                    let code = sample_code(&mut rng, Sizes { depth, rate }, style);
+                    let code = sample_code::<P>(&mut rng, Sizes { depth, rate }, style);
                     let message = rng.residues(1 << depth, style);
                     let a = rng.styled(style);
                     let block = by_matrix(&code, depth, &message);
@@ -106,12 +109,18 @@ mod tests {
         }
     }
 
-    #[test]
-    fn refusals() {
-        let p = Residue::MODULUS;
+    fn refusals<const P: u32>() {
+        let p = P;
         let answer = |level, rate, t: &[u32], t2: &[u32], block: &[u32], a, out: usize| {
             let mut result = vec![7; out];
-            let answer = fold(level, rate, t, t2, block, a, &mut result);
+            let lent = LentLevel {
+                field: Field::of(P),
+                level,
+                rate,
+                t,
+                t2,
+            };
+            let answer = fold(lent, block, a, &mut result);
             assert!(answer.number == 0 || result.iter().all(|&word| word == 7));
             (answer.number, answer.first, answer.second)
         };

@@ -1,37 +1,37 @@
 //! The jobs as traits, so that the same comparison runs on any two implementations of them.
 
 use crate::answer::{Answer, Reading};
-use crate::code::LentCode;
-use crate::{clearance, decode, encode, fold, opening, polynomial, table, verify};
+use crate::code::{LentCode, LentLevel};
+use crate::field::Field;
+use crate::{clearance, decode, encode, fill, fold, opening, polynomial, table, verify};
 
 /// Readings, tables and evaluation.
 pub trait GroundJobs {
     /// Reads one word as a clearance.
-    fn read_clearance(word: u32) -> Reading;
+    fn read_clearance(field: Field, word: u32) -> Reading;
     /// Clearance table to coefficients.
-    fn table_to_coefficients(clearances: &[i32], message: &mut [u32]) -> Answer;
+    fn table_to_coefficients(field: Field, clearances: &[i32], message: &mut [u32]) -> Answer;
     /// Coefficients to clearance table.
-    fn coefficients_to_table(message: &[u32], clearances: &mut [i32], work: &mut [u32]) -> Answer;
+    fn coefficients_to_table(
+        field: Field,
+        message: &[u32],
+        clearances: &mut [i32],
+        work: &mut [u32],
+    ) -> Answer;
     /// The polynomial's value at a point.
-    fn evaluate(depth: u32, message: &[u32], z: &[u32], value: &mut u32) -> Answer;
+    fn evaluate(field: Field, depth: u32, message: &[u32], z: &[u32], value: &mut u32) -> Answer;
 }
 
-/// Encoding, decoding, folding.
+/// Encoding, decoding, folding, filling.
 pub trait CodeJobs {
     /// The codeword of a message.
     fn encode(lent: LentCode, message: &[u32], block: &mut [u32]) -> Answer;
     /// The message of a codeword.
     fn decode(lent: LentCode, block: &[u32], message: &mut [u32], work: &mut [u32]) -> Answer;
     /// The fold of a block by one level.
-    fn fold(
-        level: u32,
-        rate: u32,
-        t: &[u32],
-        t2: &[u32],
-        block: &[u32],
-        challenge: u32,
-        out: &mut [u32],
-    ) -> Answer;
+    fn fold(lent: LentLevel, block: &[u32], challenge: u32, out: &mut [u32]) -> Answer;
+    /// Base row and diagonals of the second field, by rule.
+    fn fill_roots(depth: u32, rate: u32, g: &mut [u32], t: &mut [u32], t2: &mut [u32]) -> Answer;
 }
 
 /// Writing and verifying openings.
@@ -63,17 +63,22 @@ pub trait OpeningJobs {
 pub struct Reference;
 
 impl GroundJobs for Reference {
-    fn read_clearance(word: u32) -> Reading {
-        clearance::read_clearance(word)
+    fn read_clearance(field: Field, word: u32) -> Reading {
+        clearance::read_clearance(field, word)
     }
-    fn table_to_coefficients(clearances: &[i32], message: &mut [u32]) -> Answer {
-        table::table_to_coefficients(clearances, message)
+    fn table_to_coefficients(field: Field, clearances: &[i32], message: &mut [u32]) -> Answer {
+        table::table_to_coefficients(field, clearances, message)
     }
-    fn coefficients_to_table(message: &[u32], clearances: &mut [i32], work: &mut [u32]) -> Answer {
-        table::coefficients_to_table(message, clearances, work)
+    fn coefficients_to_table(
+        field: Field,
+        message: &[u32],
+        clearances: &mut [i32],
+        work: &mut [u32],
+    ) -> Answer {
+        table::coefficients_to_table(field, message, clearances, work)
     }
-    fn evaluate(depth: u32, message: &[u32], z: &[u32], value: &mut u32) -> Answer {
-        polynomial::evaluate(depth, message, z, value)
+    fn evaluate(field: Field, depth: u32, message: &[u32], z: &[u32], value: &mut u32) -> Answer {
+        polynomial::evaluate(field, depth, message, z, value)
     }
 }
 
@@ -84,16 +89,11 @@ impl CodeJobs for Reference {
     fn decode(lent: LentCode, block: &[u32], message: &mut [u32], work: &mut [u32]) -> Answer {
         decode::decode(lent, block, message, work)
     }
-    fn fold(
-        level: u32,
-        rate: u32,
-        t: &[u32],
-        t2: &[u32],
-        block: &[u32],
-        challenge: u32,
-        out: &mut [u32],
-    ) -> Answer {
-        fold::fold(level, rate, t, t2, block, challenge, out)
+    fn fold(lent: LentLevel, block: &[u32], challenge: u32, out: &mut [u32]) -> Answer {
+        fold::fold(lent, block, challenge, out)
+    }
+    fn fill_roots(depth: u32, rate: u32, g: &mut [u32], t: &mut [u32], t2: &mut [u32]) -> Answer {
+        fill::fill_roots(depth, rate, g, t, t2)
     }
 }
 

@@ -49,7 +49,7 @@ pub fn lengths(pairs: &[(usize, usize)]) -> Result<(), Refusal> {
 
 /// 4: every word of an input is below p. Gives the residues. A job calls this for one input after the
 /// other, in the order of [`Input`].
-pub fn words(input: Input, words: &[u32]) -> Result<Vec<Residue>, Refusal> {
+pub fn words<const P: u32>(input: Input, words: &[u32]) -> Result<Vec<Residue<P>>, Refusal> {
     let mut residues = Vec::with_capacity(words.len());
     for (index, &word) in words.iter().enumerate() {
         let residue = Residue::new(word).ok_or(Refusal::Word { input, index })?;
@@ -59,12 +59,12 @@ pub fn words(input: Input, words: &[u32]) -> Result<Vec<Residue>, Refusal> {
 }
 
 /// 4, for a single value.
-pub fn word(input: Input, word: u32) -> Result<Residue, Refusal> {
+pub fn word<const P: u32>(input: Input, word: u32) -> Result<Residue<P>, Refusal> {
     Residue::new(word).ok_or(Refusal::Word { input, index: 0 })
 }
 
 /// 5: no zero in the base row.
-pub fn row(g: &[Residue]) -> Result<(), Refusal> {
+pub fn row<const P: u32>(g: &[Residue<P>]) -> Result<(), Refusal> {
     for (index, &word) in g.iter().enumerate() {
         demand(word != Residue::ZERO, Refusal::ZeroInRow(index))?;
     }
@@ -72,7 +72,7 @@ pub fn row(g: &[Residue]) -> Result<(), Refusal> {
 }
 
 /// 6: T and T' differ in every place.
-pub fn diagonals(t: &[Residue], t2: &[Residue]) -> Result<(), Refusal> {
+pub fn diagonals<const P: u32>(t: &[Residue<P>], t2: &[Residue<P>]) -> Result<(), Refusal> {
     for (index, (a, b)) in t.iter().zip(t2).enumerate() {
         demand(a != b, Refusal::EqualPair(index))?;
     }
@@ -98,8 +98,13 @@ pub fn different(queries: &[usize]) -> Result<(), Refusal> {
     demand(places.len() == queries.len(), Refusal::Repeated)
 }
 
+/// 12: a rate to fill is a power of two.
+pub fn power_of_two(rate: usize) -> Result<(), Refusal> {
+    demand(rate.is_power_of_two(), Refusal::NoPowerOfTwo)
+}
+
 /// Writes residues into a result buffer of their exact length.
-pub fn write(result: &mut [u32], residues: &[Residue]) {
+pub fn write<const P: u32>(result: &mut [u32], residues: &[Residue<P>]) {
     assert_eq!(result.len(), residues.len());
     for (word, residue) in result.iter_mut().zip(residues) {
         *word = residue.word();

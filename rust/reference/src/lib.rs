@@ -1,4 +1,4 @@
-//! The nine jobs of the order in plain Rust, written from its definitions.
+//! The ten jobs of the order in plain Rust, written from its definitions, over both of its fields.
 //!
 //! This crate is evidence, not product: it shares no line with the library and is kept simple
 //! rather than fast. Where a definition is too slow for large sizes there are two forms, the
@@ -15,6 +15,8 @@ pub mod clearance;
 pub mod code;
 pub mod decode;
 pub mod encode;
+pub mod field;
+pub mod fill;
 pub mod fold;
 pub mod jobs;
 pub mod judge;
@@ -29,7 +31,8 @@ pub mod table;
 pub mod verify;
 
 pub use answer::{Answer, Input, Reading, Refusal};
-pub use code::LentCode;
+pub use code::{LentCode, LentLevel};
+pub use field::Field;
 pub use jobs::{CodeJobs, GroundJobs, OpeningJobs, Reference};
 pub use residue::Residue;
 

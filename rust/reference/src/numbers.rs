@@ -4,13 +4,17 @@
 mod deep;
 mod places;
 mod queries;
+mod second;
 
 use crate::answer::{Answer, Reading};
-use crate::code::LentCode;
+use crate::code::{LentCode, LentLevel};
+use crate::field::Field;
 use crate::jobs::{CodeJobs, GroundJobs, OpeningJobs};
 
+const FIELD: Field = Field::First;
 const P: u32 = 2_147_483_647;
 const CODE: LentCode = LentCode {
+    field: FIELD,
     depth: 1,
     rate: 2,
     g: &[1, 1],
@@ -18,6 +22,7 @@ const CODE: LentCode = LentCode {
     t2: &[2_147_483_645, 2_147_483_644],
 };
 const DEPTH_0: LentCode = LentCode {
+    field: FIELD,
     depth: 0,
     t: &[],
     t2: &[],
@@ -34,6 +39,17 @@ fn answer(number: u32, first: u32, second: u32) -> Answer {
     }
 }
 
+/// One level of the diagonals at rate 2.
+fn level<'a>(field: Field, level: u32, t: &'a [u32], t2: &'a [u32]) -> LentLevel<'a> {
+    LentLevel {
+        field,
+        level,
+        rate: 2,
+        t,
+        t2,
+    }
+}
+
 /// A reading that is not refused.
 fn read(kind: u32, amount: u32) -> Reading {
     Reading {
@@ -46,7 +62,7 @@ fn read(kind: u32, amount: u32) -> Reading {
 /// Clearances and tables.
 pub fn ground<J: GroundJobs>() {
     let mut one = [77];
-    let done = J::table_to_coefficients(&[-1], &mut one);
+    let done = J::table_to_coefficients(FIELD, &[-1], &mut one);
     assert_eq!((done, one), (Answer::DONE, [2_147_483_646]));
     for (word, due) in [
         (0, read(3, 0)),
@@ -55,35 +71,51 @@ pub fn ground<J: GroundJobs>() {
         (1_073_741_823, read(1, 1_073_741_823)),
         (1_073_741_824, read(2, 1_073_741_823)),
     ] {
-        assert_eq!(J::read_clearance(word), due, "word {word}");
+        assert_eq!(J::read_clearance(FIELD, word), due, "word {word}");
     }
     let (mut table, mut work) = ([77], [77]);
-    let done = J::coefficients_to_table(&[1_073_741_824], &mut table, &mut work);
+    let done = J::coefficients_to_table(FIELD, &[1_073_741_824], &mut table, &mut work);
     assert_eq!((done, table, work), (Answer::DONE, [-1_073_741_823], [0]));
     let mut one = [77];
-    let refused = J::table_to_coefficients(&[1_073_741_824], &mut one);
+    let refused = J::table_to_coefficients(FIELD, &[1_073_741_824], &mut one);
     assert_eq!((refused, one), (answer(9, 0, 0), [77]));
 
     let mut message = [77; 4];
-    let done = J::table_to_coefficients(&[3, 5, 4, 10], &mut message);
+    let done = J::table_to_coefficients(FIELD, &[3, 5, 4, 10], &mut message);
     assert_eq!((done, message), (Answer::DONE, [3, 2, 1, 4]));
     let (mut table, mut work) = ([77; 4], [77; 4]);
-    let done = J::coefficients_to_table(&message, &mut table, &mut work);
+    let done = J::coefficients_to_table(FIELD, &message, &mut table, &mut work);
     assert_eq!((done, table, work), (Answer::DONE, [3, 5, 4, 10], [0; 4]));
     let mut three = [77; 3];
-    let refused = J::table_to_coefficients(&[1, 2, 3], &mut three);
+    let refused = J::table_to_coefficients(FIELD, &[1, 2, 3], &mut three);
     assert_eq!((refused, three), (answer(1, 0, 0), [77; 3]));
-    assert_eq!(J::table_to_coefficients(&[], &mut []), answer(1, 0, 0));
+    assert_eq!(
+        J::table_to_coefficients(FIELD, &[], &mut []),
+        answer(1, 0, 0)
+    );
 
     let mut value = 77;
-    assert_eq!(J::evaluate(1, &[5, 7], &[3], &mut value), Answer::DONE);
+    assert_eq!(
+        J::evaluate(FIELD, 1, &[5, 7], &[3], &mut value),
+        Answer::DONE
+    );
     assert_eq!(value, 26);
-    assert_eq!(J::evaluate(1, &[5, 7], &[P], &mut value), answer(4, 0, 5));
-    assert_eq!(J::evaluate(17, &[5, 7], &[3], &mut value), answer(3, 0, 0));
-    assert_eq!(J::evaluate(21, &[5, 7], &[3], &mut value), answer(1, 0, 0));
+    assert_eq!(
+        J::evaluate(FIELD, 1, &[5, 7], &[P], &mut value),
+        answer(4, 0, 5)
+    );
+    assert_eq!(
+        J::evaluate(FIELD, 17, &[5, 7], &[3], &mut value),
+        answer(3, 0, 0)
+    );
+    assert_eq!(
+        J::evaluate(FIELD, 21, &[5, 7], &[3], &mut value),
+        answer(1, 0, 0)
+    );
     assert_eq!(value, 26);
     places::ground::<J>();
     deep::ground::<J>();
+    second::ground::<J>();
 }
 
 /// Codeword, decoding, fold, and the edges of the refusals.
@@ -101,7 +133,7 @@ pub fn code<J: CodeJobs>() {
     let refused = J::decode(CODE, &damaged, &mut message, &mut work);
     assert_eq!((refused, message, work), (answer(8, 0, 0), [77; 2], [0; 4]));
     let mut out = [77; 2];
-    let done = J::fold(1, 2, CODE.t, CODE.t2, &BLOCK, 4, &mut out);
+    let done = J::fold(level(FIELD, 1, CODE.t, CODE.t2), &BLOCK, 4, &mut out);
     assert_eq!((done, out), (Answer::DONE, [33, 33]));
     let mut block = [77; 2];
     let done = J::encode(DEPTH_0, &[9], &mut block);
@@ -128,6 +160,7 @@ pub fn code<J: CodeJobs>() {
     assert_eq!(refused(pair), (answer(6, 1, 0), [77; 4]));
     places::code::<J>();
     deep::code::<J>();
+    second::code::<J>();
 }
 
 /// Openings and verdicts.
@@ -166,12 +199,14 @@ pub fn opening<J: OpeningJobs>() {
     places::opening::<J>();
     queries::opening::<J>();
     deep::opening::<J>();
+    second::opening::<J>();
 }
 
 /// At d = 2, c = 2 query 2 must go on at 0: an honest opening is accepted there, and a wrong word
 /// at place 0 of block 1 is found through it.
 fn second_half<J: OpeningJobs>() {
     let code = LentCode {
+        field: FIELD,
         depth: 2,
         rate: 2,
         g: &[1, 1],

@@ -5,13 +5,19 @@ use crate::code::{Code, LentCode};
 use crate::encode::codeword;
 use crate::fold::fold_block;
 use crate::judge;
+use crate::over;
 use crate::polynomial;
 use crate::residue::Residue;
 use crate::sumcheck::rounds;
 
 /// The opening of a message: h_d to h_1, then v = f(r), then the blocks of level d-1 to 0, each
 /// the fold of the one above it by its challenge.
-pub fn opening_of(code: &Code, message: &[Residue], z: &[Residue], r: &[Residue]) -> Vec<Residue> {
+pub fn opening_of<const P: u32>(
+    code: &Code<P>,
+    message: &[Residue<P>],
+    z: &[Residue<P>],
+    r: &[Residue<P>],
+) -> Vec<Residue<P>> {
     let depth = code.sizes.depth;
     let mut opening = rounds(message, z, r).concat();
     opening.push(polynomial::value(message, r));
@@ -34,10 +40,10 @@ pub fn write_opening(
     work: &mut [u32],
     value: &mut u32,
 ) -> Answer {
-    try_write_opening(lent, message, z, r, opening, work, value).into()
+    over!(lent.field, P => try_write_opening::<P>(lent, message, z, r, opening, work, value)).into()
 }
 
-fn try_write_opening(
+fn try_write_opening<const P: u32>(
     lent: LentCode,
     message: &[u32],
     z: &[u32],
@@ -46,7 +52,7 @@ fn try_write_opening(
     work: &mut [u32],
     value: &mut u32,
 ) -> Result<(), Refusal> {
-    let (code, [message, z, r]) = lent.judge(
+    let (code, [message, z, r]) = lent.judge::<P, 3>(
         |sizes| {
             vec![
                 (message.len(), sizes.message()),
@@ -68,16 +74,19 @@ fn try_write_opening(
 mod tests {
     use super::*;
     use crate::code::tests::sample_code;
+    use crate::field::Field;
+    use crate::over_both;
     use crate::sample::{Rng, STYLES};
     use crate::sizes::Sizes;
 
-    #[test]
-    fn block_zero_is_the_codeword_of_the_final_value() {
-        let mut rng = Rng::new(16);
+    over_both!(block_zero_is_the_codeword_of_the_final_value);
+
+    fn block_zero_is_the_codeword_of_the_final_value<const P: u32>() {
+        let mut rng = Rng::new(Field::of(P), 16);
         for depth in 0..=7 {
             for style in STYLES {
                 let rate = 2 + rng.below(15);
-                let code = sample_code(&mut rng, Sizes { depth, rate }, style);
+                let code = sample_code::<P>(&mut rng, Sizes { depth, rate }, style);
                 let message = rng.residues(1 << depth, style);
                 let z = rng.residues(depth, style);
                 let r = rng.residues(depth, style);

@@ -1,7 +1,9 @@
 //! The polynomial whose coefficients a message holds, and the evaluation job.
 
 use crate::answer::{Answer, Input, Refusal};
+use crate::field::Field;
 use crate::judge;
+use crate::over;
 use crate::residue::Residue;
 use crate::LITERAL_DEPTH;
 
@@ -11,7 +13,7 @@ pub fn bit(b: usize, i: usize) -> bool {
 }
 
 /// The point of corner b: X_i is bit i of b.
-pub fn corner(b: usize, depth: usize) -> Vec<Residue> {
+pub fn corner<const P: u32>(b: usize, depth: usize) -> Vec<Residue<P>> {
     let coordinate = |i| {
         if bit(b, i) {
             Residue::ONE
@@ -23,8 +25,11 @@ pub fn corner(b: usize, depth: usize) -> Vec<Residue> {
 }
 
 /// The value at a point, literally: word b times the product of those X_i whose bit in b is set.
-pub fn value_by_monomials(message: &[Residue], point: &[Residue]) -> Residue {
-    let monomial = |b: usize| -> Residue {
+pub fn value_by_monomials<const P: u32>(
+    message: &[Residue<P>],
+    point: &[Residue<P>],
+) -> Residue<P> {
+    let monomial = |b: usize| -> Residue<P> {
         let set = (0..point.len()).filter(|&i| bit(b, i));
         set.map(|i| point[i]).product()
     };
@@ -33,7 +38,7 @@ pub fn value_by_monomials(message: &[Residue], point: &[Residue]) -> Residue {
 }
 
 /// The value at a point by halves: the right half of a message is what multiplies the top variable.
-pub fn value_by_halves(message: &[Residue], point: &[Residue]) -> Residue {
+pub fn value_by_halves<const P: u32>(message: &[Residue<P>], point: &[Residue<P>]) -> Residue<P> {
     let Some((&top, lower)) = point.split_last() else {
         return message[0];
     };
@@ -42,7 +47,7 @@ pub fn value_by_halves(message: &[Residue], point: &[Residue]) -> Residue {
 }
 
 /// The value at a point.
-pub fn value(message: &[Residue], point: &[Residue]) -> Residue {
+pub fn value<const P: u32>(message: &[Residue<P>], point: &[Residue<P>]) -> Residue<P> {
     if point.len() <= LITERAL_DEPTH {
         value_by_monomials(message, point)
     } else {
@@ -51,14 +56,19 @@ pub fn value(message: &[Residue], point: &[Residue]) -> Residue {
 }
 
 /// The evaluation job. Refusals 1, 3, 4. `value` is written only when done.
-pub fn evaluate(depth: u32, message: &[u32], z: &[u32], value: &mut u32) -> Answer {
-    try_evaluate(depth, message, z, value).into()
+pub fn evaluate(field: Field, depth: u32, message: &[u32], z: &[u32], value: &mut u32) -> Answer {
+    over!(field, P => try_evaluate::<P>(depth, message, z, value)).into()
 }
 
-fn try_evaluate(depth: u32, message: &[u32], z: &[u32], value: &mut u32) -> Result<(), Refusal> {
+fn try_evaluate<const P: u32>(
+    depth: u32,
+    message: &[u32],
+    z: &[u32],
+    value: &mut u32,
+) -> Result<(), Refusal> {
     let depth = judge::depth(depth)?;
     judge::lengths(&[(message.len(), 1 << depth), (z.len(), depth)])?;
-    let message = judge::words(Input::Block, message)?;
+    let message = judge::words::<P>(Input::Block, message)?;
     let z = judge::words(Input::Z, z)?;
     *value = self::value(&message, &z).word();
     Ok(())
@@ -67,15 +77,17 @@ fn try_evaluate(depth: u32, message: &[u32], z: &[u32], value: &mut u32) -> Resu
 #[cfg(test)]
 mod tests {
     use super::*;
+    use crate::over_both;
     use crate::sample::{Rng, STYLES};
 
-    #[test]
-    fn both_forms_agree() {
-        let mut rng = Rng::new(4);
+    over_both!(both_forms_agree refusals);
+
+    fn both_forms_agree<const P: u32>() {
+        let mut rng = Rng::new(Field::of(P), 4);
         for depth in 0..=9 {
             for style in STYLES {
                 for _ in 0..10 {
-                    let message = rng.residues(1 << depth, style);
+                    let message = rng.residues::<P>(1 << depth, style);
                     let point = rng.residues(depth, style);
                     let literal = value_by_monomials(&message, &point);
                     assert_eq!(value_by_halves(&message, &point), literal);
@@ -84,12 +96,11 @@ mod tests {
         }
     }
 
-    #[test]
-    fn refusals() {
-        let p = Residue::MODULUS;
+    fn refusals<const P: u32>() {
+        let p = P;
         let mut value = 77;
         let mut answer = |depth, message: &[u32], z: &[u32]| {
-            let answer = evaluate(depth, message, z, &mut value);
+            let answer = evaluate(Field::of(P), depth, message, z, &mut value);
             assert!(answer.number == 0 || value == 77);
             (answer.number, answer.first, answer.second)
         };

@@ -1,36 +1,49 @@
 //! Seeded inputs for tests. No part of any job.
 
+use crate::answer::Answer;
+use crate::field::{Field, FIRST, SECOND};
+use crate::fill::fill_roots;
 use crate::residue::Residue;
 use crate::sizes::Sizes;
 
-/// A small seeded generator (splitmix64).
+/// A small seeded generator (splitmix64) of numbers and of residues of one field.
 #[derive(Clone, Debug)]
-pub struct Rng(u64);
+pub struct Rng {
+    state: u64,
+    field: Field,
+}
 
 /// What kind of residues a sample holds.
 #[derive(Clone, Copy, PartialEq, Eq, Debug)]
 pub enum Style {
     /// Any residue.
     Random,
-    /// Zero, one, p - 1 and their neighbours.
+    /// Zero, one, p - 1, the half, their neighbours, and what is that in the other field.
     Extreme,
     /// Below 8: many coincidences.
     Small,
+    /// A code of roots of unity, over the second field at a rate that can be filled. Other words are any.
+    Roots,
 }
 
-/// All styles.
+/// All styles of words.
 pub const STYLES: [Style; 3] = [Style::Random, Style::Extreme, Style::Small];
 
 impl Rng {
     /// A generator from a seed.
-    pub fn new(seed: u64) -> Rng {
-        Rng(seed)
+    pub fn new(field: Field, seed: u64) -> Rng {
+        Rng { state: seed, field }
+    }
+
+    /// The field of its residues.
+    pub fn field(&self) -> Field {
+        self.field
     }
 
     /// The next 64 bits.
     pub fn bits(&mut self) -> u64 {
-        self.0 = self.0.wrapping_add(0x9e37_79b9_7f4a_7c15);
-        let mut z = self.0;
+        self.state = self.state.wrapping_add(0x9e37_79b9_7f4a_7c15);
+        let mut z = self.state;
         z = (z ^ (z >> 30)).wrapping_mul(0xbf58_476d_1ce4_e5b9);
         z = (z ^ (z >> 27)).wrapping_mul(0x94d0_49bb_1331_11eb);
         z ^ (z >> 31)
@@ -57,30 +70,47 @@ impl Rng {
     }
 
     /// Any residue.
-    pub fn residue(&mut self) -> Residue {
+    pub fn residue<const P: u32>(&mut self) -> Residue<P> {
         self.styled(Style::Random)
     }
 
-    /// A residue of a style.
-    pub fn styled(&mut self, style: Style) -> Residue {
-        let p = Residue::MODULUS;
-        let half = Residue::HALF.word();
-        let word = match style {
-            Style::Random => (self.bits() % u64::from(p)) as u32,
-            Style::Extreme => self.pick(&[0, 1, p - 1, 0, 1, p - 1, 2, p - 2, half, half - 1]),
+    /// A residue of a style. The modulus is that of the field.
+    pub fn styled<const P: u32>(&mut self, style: Style) -> Residue<P> {
+        assert_eq!(P, self.field.modulus());
+        Residue::new(self.styled_word(style)).expect("a word of the field")
+    }
+
+    /// The word of a residue of a style.
+    fn styled_word(&mut self, style: Style) -> u32 {
+        let p = self.field.modulus();
+        match style {
+            Style::Random | Style::Roots => (self.bits() % u64::from(p)) as u32,
+            Style::Extreme if self.one_in(3) => self.border(),
+            Style::Extreme => self.pick(&[0, 1, p - 1]),
             Style::Small => self.below(8) as u32,
-        };
-        Residue::new(word).expect("all of these are below p")
+        }
+    }
+
+    /// A word of the field beside an end or the half of either field.
+    fn border(&mut self) -> u32 {
+        let borders = [2, FIRST, FIRST / 2 + 1, SECOND, SECOND / 2 + 1];
+        let p = self.field.modulus();
+        loop {
+            let word = self.pick(&borders) - self.below(3) as u32;
+            if word < p {
+                return word;
+            }
+        }
     }
 
     /// Several residues of a style.
-    pub fn residues(&mut self, count: usize, style: Style) -> Vec<Residue> {
+    pub fn residues<const P: u32>(&mut self, count: usize, style: Style) -> Vec<Residue<P>> {
         (0..count).map(|_| self.styled(style)).collect()
     }
 
     /// The words of several residues of a style.
     pub fn words(&mut self, count: usize, style: Style) -> Vec<u32> {
-        (0..count).map(|_| self.styled(style).word()).collect()
+        (0..count).map(|_| self.styled_word(style)).collect()
     }
 
     /// Different numbers below `bound`, which is at least `count`.
@@ -98,31 +128,49 @@ impl Rng {
 
     /// A legal base row, T and T' as words.
     pub fn code(&mut self, sizes: &Sizes, style: Style) -> [Vec<u32>; 3] {
+        if style == Style::Roots {
+            return self.roots(sizes);
+        }
         let g = (0..sizes.rate).map(|_| self.non_zero(style)).collect();
         let (t, t2) = self.diagonals(sizes.diagonals(), style);
         [g, t, t2]
     }
 
+    fn roots(&self, sizes: &Sizes) -> [Vec<u32>; 3] {
+        assert_eq!(self.field, Field::Second);
+        let lengths = [sizes.rate, sizes.diagonals(), sizes.diagonals()];
+        let mut rows = lengths.map(|length| vec![0; length]);
+        let [g, t, t2] = &mut rows;
+        let (depth, rate) = (sizes.depth as u32, sizes.rate as u32);
+        assert_eq!(fill_roots(depth, rate, g, t, t2), Answer::DONE);
+        rows
+    }
+
     /// Legal diagonals of a length: differing in every place, in a quarter of the samples T' = -T where
     /// that is legal.
     pub fn diagonals(&mut self, count: usize, style: Style) -> (Vec<u32>, Vec<u32>) {
+        let p = self.field.modulus();
         let negated = self.one_in(4);
         let pairs = (0..count).map(|_| {
-            let t = self.styled(style);
-            let mut t2 = if negated { -t } else { self.styled(style) };
+            let t = self.styled_word(style);
+            let mut t2 = if negated {
+                (p - t) % p
+            } else {
+                self.styled_word(style)
+            };
             while t2 == t {
-                t2 = t2 + Residue::ONE;
+                t2 = (t2 + 1) % p;
             }
-            (t.word(), t2.word())
+            (t, t2)
         });
         pairs.unzip()
     }
 
     fn non_zero(&mut self, style: Style) -> u32 {
         loop {
-            let residue = self.styled(style);
-            if residue != Residue::ZERO {
-                return residue.word();
+            let word = self.styled_word(style);
+            if word != 0 {
+                return word;
             }
         }
     }

@@ -6,26 +6,27 @@ use crate::table::corner_values;
 use crate::LITERAL_DEPTH;
 
 /// eq: the product of z_i*x_i + (1-z_i)(1-x_i), and 1 for no variables.
-pub fn eq(z: &[Residue], x: &[Residue]) -> Residue {
+pub fn eq<const P: u32>(z: &[Residue<P>], x: &[Residue<P>]) -> Residue<P> {
     assert_eq!(z.len(), x.len());
-    let factor = |(&z, &x): (&Residue, &Residue)| z * x + (Residue::ONE - z) * (Residue::ONE - x);
+    let factor =
+        |(&z, &x): (&Residue<P>, &Residue<P>)| z * x + (Residue::ONE - z) * (Residue::ONE - x);
     z.iter().zip(x).map(factor).product()
 }
 
 /// The places at which a round is sent: 0, 1, 2.
-pub fn sent_places() -> [Residue; 3] {
+pub fn sent_places<const P: u32>() -> [Residue<P>; 3] {
     let two = Residue::ONE + Residue::ONE;
     [Residue::ZERO, Residue::ONE, two]
 }
 
 /// h_i at 0, 1, 2, literally: the sum of f*eq over the 0/1 choices of X_0 to X_(i-2), with
 /// X_(i-1) the place and the higher variables set to their challenges.
-pub fn round_by_corners(
-    message: &[Residue],
-    z: &[Residue],
-    r: &[Residue],
+pub fn round_by_corners<const P: u32>(
+    message: &[Residue<P>],
+    z: &[Residue<P>],
+    r: &[Residue<P>],
     i: usize,
-) -> [Residue; 3] {
+) -> [Residue<P>; 3] {
     sent_places().map(|place| {
         let term = |b| {
             let mut x = corner(b, i - 1);
@@ -39,7 +40,11 @@ pub fn round_by_corners(
 
 /// All rounds, h_d first, from the values of f and eq at the corners of the variables that are not
 /// yet set. Both are straight lines in the top variable, so two corners give any place.
-pub fn rounds_by_tables(message: &[Residue], z: &[Residue], r: &[Residue]) -> Vec<[Residue; 3]> {
+pub fn rounds_by_tables<const P: u32>(
+    message: &[Residue<P>],
+    z: &[Residue<P>],
+    r: &[Residue<P>],
+) -> Vec<[Residue<P>; 3]> {
     let depth = z.len();
     let mut f = corner_values(message);
     let mut weight: Vec<_> = (0..f.len()).map(|b| eq(z, &corner(b, depth))).collect();
@@ -56,14 +61,18 @@ pub fn rounds_by_tables(message: &[Residue], z: &[Residue], r: &[Residue]) -> Ve
 }
 
 /// Sets the top variable of a table of corner values.
-fn set_top(table: &[Residue], place: Residue) -> Vec<Residue> {
+fn set_top<const P: u32>(table: &[Residue<P>], place: Residue<P>) -> Vec<Residue<P>> {
     let (at_0, at_1) = table.split_at(table.len() / 2);
-    let set = |(&a, &b): (&Residue, &Residue)| a + place * (b - a);
+    let set = |(&a, &b): (&Residue<P>, &Residue<P>)| a + place * (b - a);
     at_0.iter().zip(at_1).map(set).collect()
 }
 
 /// All rounds, h_d first.
-pub fn rounds(message: &[Residue], z: &[Residue], r: &[Residue]) -> Vec<[Residue; 3]> {
+pub fn rounds<const P: u32>(
+    message: &[Residue<P>],
+    z: &[Residue<P>],
+    r: &[Residue<P>],
+) -> Vec<[Residue<P>; 3]> {
     let depth = z.len();
     if depth <= LITERAL_DEPTH {
         let round = |i| round_by_corners(message, z, r, i);
@@ -74,7 +83,7 @@ pub fn rounds(message: &[Residue], z: &[Residue], r: &[Residue]) -> Vec<[Residue
 }
 
 /// The value at x of the polynomial of degree at most 2 with these values at 0, 1, 2.
-pub fn quadratic_at(h: [Residue; 3], x: Residue) -> Residue {
+pub fn quadratic_at<const P: u32>(h: [Residue<P>; 3], x: Residue<P>) -> Residue<P> {
     let [_, one, two] = sent_places();
     h[0] * (x - one) * (x - two) * Residue::HALF - h[1] * x * (x - two)
         + h[2] * x * (x - one) * Residue::HALF
@@ -83,16 +92,19 @@ pub fn quadratic_at(h: [Residue; 3], x: Residue) -> Residue {
 #[cfg(test)]
 mod tests {
     use super::*;
+    use crate::field::Field;
+    use crate::over_both;
     use crate::polynomial::value;
     use crate::sample::{Rng, STYLES};
 
-    #[test]
-    fn both_forms_agree() {
-        let mut rng = Rng::new(13);
+    over_both!(both_forms_agree eq_picks_the_value_at_the_point quadratics);
+
+    fn both_forms_agree<const P: u32>() {
+        let mut rng = Rng::new(Field::of(P), 13);
         for depth in 0..=6 {
             for style in STYLES {
                 for _ in 0..4 {
-                    let message = rng.residues(1 << depth, style);
+                    let message = rng.residues::<P>(1 << depth, style);
                     let z = rng.residues(depth, style);
                     let r = rng.residues(depth, style);
                     let round = |i| round_by_corners(&message, &z, &r, i);
@@ -103,27 +115,25 @@ mod tests {
         }
     }
 
-    #[test]
-    fn eq_picks_the_value_at_the_point() {
-        let mut rng = Rng::new(14);
+    fn eq_picks_the_value_at_the_point<const P: u32>() {
+        let mut rng = Rng::new(Field::of(P), 14);
         for depth in 0..=6 {
-            let message = rng.residues(1 << depth, STYLES[0]);
+            let message = rng.residues::<P>(1 << depth, STYLES[0]);
             let z = rng.residues(depth, STYLES[0]);
             let term = |b| {
                 let x = corner(b, depth);
                 value(&message, &x) * eq(&z, &x)
             };
-            let total: Residue = (0..1 << depth).map(term).sum();
+            let total: Residue<P> = (0..1 << depth).map(term).sum();
             assert_eq!(total, value(&message, &z));
         }
     }
 
-    #[test]
-    fn quadratics() {
-        let mut rng = Rng::new(15);
+    fn quadratics<const P: u32>() {
+        let mut rng = Rng::new(Field::of(P), 15);
         for _ in 0..500 {
-            let (a, b, c) = (rng.residue(), rng.residue(), rng.residue());
-            let at = |x: Residue| a + b * x + c * x * x;
+            let (a, b, c) = (rng.residue::<P>(), rng.residue(), rng.residue());
+            let at = |x: Residue<P>| a + b * x + c * x * x;
             let h = sent_places().map(at);
             let x = rng.residue();
             assert_eq!(quadratic_at(h, x), at(x));

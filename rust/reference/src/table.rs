@@ -2,14 +2,16 @@
 
 use crate::answer::{Answer, Input, Refusal};
 use crate::clearance;
+use crate::field::Field;
 use crate::judge;
+use crate::over;
 use crate::polynomial::{bit, corner, value_by_monomials};
 use crate::residue::Residue;
 use crate::LITERAL_DEPTH;
 
 /// The coefficients of the polynomial with these values at the corners, literally: coefficient b
 /// is the sum over the corners s within b, with a minus for every bit that s lacks.
-pub fn coefficients_by_corners(table: &[Residue]) -> Vec<Residue> {
+pub fn coefficients_by_corners<const P: u32>(table: &[Residue<P>]) -> Vec<Residue<P>> {
     let signed = |b: usize, s: usize| {
         let missing = (b & !s).count_ones();
         if missing % 2 == 1 {
@@ -23,24 +25,27 @@ pub fn coefficients_by_corners(table: &[Residue]) -> Vec<Residue> {
 }
 
 /// The same, variable by variable.
-pub fn coefficients_by_variables(table: &[Residue]) -> Vec<Residue> {
+pub fn coefficients_by_variables<const P: u32>(table: &[Residue<P>]) -> Vec<Residue<P>> {
     by_variables(table, |with, without| with - without)
 }
 
 /// The values at the corners, literally.
-pub fn corner_values_by_monomials(message: &[Residue]) -> Vec<Residue> {
+pub fn corner_values_by_monomials<const P: u32>(message: &[Residue<P>]) -> Vec<Residue<P>> {
     let depth = message.len().trailing_zeros() as usize;
     let value = |b| value_by_monomials(message, &corner(b, depth));
     (0..message.len()).map(value).collect()
 }
 
 /// The same, variable by variable.
-pub fn corner_values_by_variables(message: &[Residue]) -> Vec<Residue> {
+pub fn corner_values_by_variables<const P: u32>(message: &[Residue<P>]) -> Vec<Residue<P>> {
     by_variables(message, |with, without| with + without)
 }
 
 /// For every variable, changes each word whose bit is set by the word that only lacks that bit.
-fn by_variables(words: &[Residue], step: impl Fn(Residue, Residue) -> Residue) -> Vec<Residue> {
+fn by_variables<const P: u32>(
+    words: &[Residue<P>],
+    step: impl Fn(Residue<P>, Residue<P>) -> Residue<P>,
+) -> Vec<Residue<P>> {
     let mut words = words.to_vec();
     for i in 0..words.len().trailing_zeros() as usize {
         for b in 0..words.len() {
@@ -53,7 +58,7 @@ fn by_variables(words: &[Residue], step: impl Fn(Residue, Residue) -> Residue) -
 }
 
 /// The values at the corners.
-pub fn corner_values(message: &[Residue]) -> Vec<Residue> {
+pub fn corner_values<const P: u32>(message: &[Residue<P>]) -> Vec<Residue<P>> {
     if message.len() <= 1 << LITERAL_DEPTH {
         corner_values_by_monomials(message)
     } else {
@@ -62,14 +67,17 @@ pub fn corner_values(message: &[Residue]) -> Vec<Residue> {
 }
 
 /// Table to coefficients. Refusals 1, 3, 9.
-pub fn table_to_coefficients(clearances: &[i32], message: &mut [u32]) -> Answer {
-    try_table_to_coefficients(clearances, message).into()
+pub fn table_to_coefficients(field: Field, clearances: &[i32], message: &mut [u32]) -> Answer {
+    over!(field, P => try_table_to_coefficients::<P>(clearances, message)).into()
 }
 
-fn try_table_to_coefficients(clearances: &[i32], message: &mut [u32]) -> Result<(), Refusal> {
+fn try_table_to_coefficients<const P: u32>(
+    clearances: &[i32],
+    message: &mut [u32],
+) -> Result<(), Refusal> {
     let depth = judge::table_length(clearances.len())?;
     judge::lengths(&[(message.len(), clearances.len())])?;
-    let residues = clearances.iter().map(|&x| clearance::to_residue(x));
+    let residues = clearances.iter().map(|&x| clearance::to_residue::<P>(x));
     let table = residues.collect::<Result<Vec<_>, _>>()?;
     let coefficients = if depth <= LITERAL_DEPTH {
         coefficients_by_corners(&table)
@@ -81,11 +89,16 @@ fn try_table_to_coefficients(clearances: &[i32], message: &mut [u32]) -> Result<
 }
 
 /// Coefficients to table. Refusals 1, 3, 4. The work buffer is zero after success.
-pub fn coefficients_to_table(message: &[u32], clearances: &mut [i32], work: &mut [u32]) -> Answer {
-    try_coefficients_to_table(message, clearances, work).into()
+pub fn coefficients_to_table(
+    field: Field,
+    message: &[u32],
+    clearances: &mut [i32],
+    work: &mut [u32],
+) -> Answer {
+    over!(field, P => try_coefficients_to_table::<P>(message, clearances, work)).into()
 }
 
-fn try_coefficients_to_table(
+fn try_coefficients_to_table<const P: u32>(
     message: &[u32],
     clearances: &mut [i32],
     work: &mut [u32],
@@ -93,7 +106,7 @@ fn try_coefficients_to_table(
     judge::table_length(message.len())?;
     let due = message.len();
     judge::lengths(&[(clearances.len(), due), (work.len(), due)])?;
-    let message = judge::words(Input::Block, message)?;
+    let message = judge::words::<P>(Input::Block, message)?;
     for (clearance, value) in clearances.iter_mut().zip(corner_values(&message)) {
         *clearance = clearance::from_residue(value);
     }
@@ -104,14 +117,16 @@ fn try_coefficients_to_table(
 #[cfg(test)]
 mod tests {
     use super::*;
+    use crate::over_both;
     use crate::sample::{Rng, STYLES};
 
-    #[test]
-    fn the_coefficients_have_the_table_as_corner_values() {
-        let mut rng = Rng::new(5);
+    over_both!(the_coefficients_have_the_table_as_corner_values there_and_back refusals_on_the_way_to_coefficients refusals_on_the_way_back);
+
+    fn the_coefficients_have_the_table_as_corner_values<const P: u32>() {
+        let mut rng = Rng::new(Field::of(P), 5);
         for depth in 0..=8 {
             for style in STYLES {
-                let table = rng.residues(1 << depth, style);
+                let table = rng.residues::<P>(1 << depth, style);
                 let coefficients = coefficients_by_corners(&table);
                 assert_eq!(coefficients_by_variables(&table), coefficients);
                 assert_eq!(corner_values_by_monomials(&coefficients), table);
@@ -120,32 +135,31 @@ mod tests {
         }
     }
 
-    #[test]
-    fn there_and_back() {
-        let mut rng = Rng::new(6);
+    fn there_and_back<const P: u32>() {
+        let mut rng = Rng::new(Field::of(P), 6);
         for depth in [0, 1, 2, 5, 11, 16, 20] {
-            let residues = rng.residues(1 << depth, STYLES[0]);
+            let residues = rng.residues::<P>(1 << depth, STYLES[0]);
             let table: Vec<i32> = residues
                 .iter()
                 .map(|&r| clearance::from_residue(r))
                 .collect();
             let mut message = vec![7; table.len()];
-            assert_eq!(table_to_coefficients(&table, &mut message), Answer::DONE);
+            let answer = table_to_coefficients(Field::of(P), &table, &mut message);
+            assert_eq!(answer, Answer::DONE);
             let mut back = vec![8; table.len()];
             let mut work = vec![9; table.len()];
-            let answer = coefficients_to_table(&message, &mut back, &mut work);
+            let answer = coefficients_to_table(Field::of(P), &message, &mut back, &mut work);
             assert_eq!(answer, Answer::DONE);
             assert_eq!(back, table);
             assert!(work.iter().all(|&word| word == 0));
         }
     }
 
-    #[test]
-    fn refusals_on_the_way_to_coefficients() {
-        let big = 1_073_741_824;
+    fn refusals_on_the_way_to_coefficients<const P: u32>() {
+        let big = Field::of(P).max_clearance() + 1;
         let number = |table: &[i32], result: usize| {
             let mut message = vec![7; result];
-            let answer = table_to_coefficients(table, &mut message);
+            let answer = table_to_coefficients(Field::of(P), table, &mut message);
             assert!(message.iter().all(|&word| word == 7));
             answer.number
         };
@@ -161,13 +175,12 @@ mod tests {
         assert_eq!(number(&[1, i32::MIN], 2), 9);
     }
 
-    #[test]
-    fn refusals_on_the_way_back() {
-        let p = Residue::MODULUS;
+    fn refusals_on_the_way_back<const P: u32>() {
+        let p = P;
         let answer = |message: &[u32], result: usize, work: usize| {
             let mut clearances = vec![7; result];
             let mut work = vec![8; work];
-            let answer = coefficients_to_table(message, &mut clearances, &mut work);
+            let answer = coefficients_to_table(Field::of(P), message, &mut clearances, &mut work);
             assert!(clearances.iter().all(|&x| x == 7) && work.iter().all(|&x| x == 8));
             (answer.number, answer.first, answer.second)
         };

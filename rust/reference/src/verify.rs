@@ -4,6 +4,7 @@ use crate::answer::{Answer, Input, Refusal};
 use crate::code::{Code, LentCode};
 use crate::fold::line;
 use crate::judge;
+use crate::over;
 use crate::residue::Residue;
 use crate::sumcheck::{eq, quadratic_at};
 
@@ -41,35 +42,35 @@ impl From<Verdict> for Answer {
 
 /// A well-formed claim: everything a verifier is lent besides the code.
 #[derive(Clone, Debug)]
-pub struct Claim {
+pub struct Claim<const P: u32> {
     /// The level-d block, which lies in the commitment buffer.
-    pub block: Vec<Residue>,
+    pub block: Vec<Residue<P>>,
     /// The claimed point.
-    pub z: Vec<Residue>,
+    pub z: Vec<Residue<P>>,
     /// The claimed value.
-    pub y: Residue,
+    pub y: Residue<P>,
     /// The challenges.
-    pub r: Vec<Residue>,
+    pub r: Vec<Residue<P>>,
     /// The query places.
     pub queries: Vec<usize>,
     /// The opening.
-    pub opening: Vec<Residue>,
+    pub opening: Vec<Residue<P>>,
 }
 
-impl Claim {
+impl<const P: u32> Claim<P> {
     /// The round h_i.
-    pub fn round(&self, code: &Code, i: usize) -> [Residue; 3] {
+    pub fn round(&self, code: &Code<P>, i: usize) -> [Residue<P>; 3] {
         let words = &self.opening[code.sizes.round(i)];
         [words[0], words[1], words[2]]
     }
 
     /// The final value v.
-    pub fn final_value(&self, code: &Code) -> Residue {
+    pub fn final_value(&self, code: &Code<P>) -> Residue<P> {
         self.opening[code.sizes.final_value()]
     }
 
     /// The block of a level: the commitment at level d, a part of the opening below.
-    pub fn level_block(&self, code: &Code, level: usize) -> &[Residue] {
+    pub fn level_block(&self, code: &Code<P>, level: usize) -> &[Residue<P>] {
         if level == code.sizes.depth {
             &self.block
         } else {
@@ -78,7 +79,7 @@ impl Claim {
     }
 
     /// The checks in the order's order; the first failure is the verdict.
-    pub fn verdict(&self, code: &Code) -> Verdict {
+    pub fn verdict(&self, code: &Code<P>) -> Verdict {
         let checks = [sums_and_final, base, folds];
         let failed = checks.iter().find_map(|check| check(self, code));
         failed.unwrap_or(Verdict::Accepted)
@@ -86,7 +87,7 @@ impl Claim {
 }
 
 /// Checks 1 and 2: each round sums to the claim before it, and v * eq(z, r) is the last claim.
-fn sums_and_final(claim: &Claim, code: &Code) -> Option<Verdict> {
+fn sums_and_final<const P: u32>(claim: &Claim<P>, code: &Code<P>) -> Option<Verdict> {
     let mut claimed = claim.y;
     for i in (1..=code.sizes.depth).rev() {
         let h = claim.round(code, i);
@@ -100,7 +101,7 @@ fn sums_and_final(claim: &Claim, code: &Code) -> Option<Verdict> {
 }
 
 /// Check 3: block 0 holds v*g[j].
-fn base(claim: &Claim, code: &Code) -> Option<Verdict> {
+fn base<const P: u32>(claim: &Claim<P>, code: &Code<P>) -> Option<Verdict> {
     let v = claim.final_value(code);
     let block = claim.level_block(code, 0);
     let wrong = (0..code.sizes.rate).find(|&j| block[j] != v * code.g[j]);
@@ -108,7 +109,7 @@ fn base(claim: &Claim, code: &Code) -> Option<Verdict> {
 }
 
 /// Check 4, query by query as listed.
-fn folds(claim: &Claim, code: &Code) -> Option<Verdict> {
+fn folds<const P: u32>(claim: &Claim<P>, code: &Code<P>) -> Option<Verdict> {
     let queries = claim.queries.iter().enumerate();
     let failed = |(position, &place)| {
         let level = first_wrong_fold(claim, code, place)?;
@@ -118,7 +119,7 @@ fn folds(claim: &Claim, code: &Code) -> Option<Verdict> {
 }
 
 /// The first level, from d-1 down, at which the fold on a query's path is wrong.
-fn first_wrong_fold(claim: &Claim, code: &Code, place: usize) -> Option<usize> {
+fn first_wrong_fold<const P: u32>(claim: &Claim<P>, code: &Code<P>, place: usize) -> Option<usize> {
     let mut u = place;
     for i in (0..code.sizes.depth).rev() {
         let upper = claim.level_block(code, i + 1);
@@ -146,14 +147,16 @@ pub fn verify_opening(
     queries: &[u32],
     opening: &[u32],
 ) -> Answer {
-    match judge_claim(lent, block, z, y, r, queries, opening) {
-        Err(refusal) => refusal.into(),
-        Ok((code, claim)) => claim.verdict(&code).into(),
-    }
+    over!(lent.field, P => {
+        match judge_claim::<P>(lent, block, z, y, r, queries, opening) {
+            Err(refusal) => refusal.into(),
+            Ok((code, claim)) => claim.verdict(&code).into(),
+        }
+    })
 }
 
 /// Refusals 1 to 7 and 11 of the verifying job.
-pub fn judge_claim(
+pub fn judge_claim<const P: u32>(
     lent: LentCode,
     block: &[u32],
     z: &[u32],
@@ -161,7 +164,7 @@ pub fn judge_claim(
     r: &[u32],
     queries: &[u32],
     opening: &[u32],
-) -> Result<(Code, Claim), Refusal> {
+) -> Result<(Code<P>, Claim<P>), Refusal> {
     let (code, [block, z, y, r, opening]) = lent.judge(
         |sizes| {
             vec![

@@ -5,10 +5,20 @@ use tvarchula_reference::sample::{Rng, Style, STYLES};
 use tvarchula_reference::sizes::Sizes;
 use tvarchula_reference::sumcheck::eq;
 use tvarchula_reference::{
-    Answer, CodeJobs, GroundJobs, LentCode, OpeningJobs, Reference, Residue,
+    over_both, Answer, CodeJobs, Field, GroundJobs, LentCode, OpeningJobs, Reference, Residue,
 };
 
-struct Honest {
+over_both!(
+    honest_openings_are_accepted_and_no_other_value
+    every_query_accepts_an_honest_opening
+    every_repeat_is_refused
+    one_moved_word_of_the_rounds_or_the_final_value
+    one_moved_word_of_a_block
+    a_moved_final_value_where_eq_is_zero
+    a_call_that_opens_a_large_size
+);
+
+struct Honest<const P: u32> {
     sizes: Sizes,
     code: [Vec<u32>; 3],
     message: Vec<u32>,
@@ -20,8 +30,8 @@ struct Honest {
     opening: Vec<u32>,
 }
 
-impl Honest {
-    fn new(rng: &mut Rng, sizes: Sizes, style: Style) -> Honest {
+impl<const P: u32> Honest<P> {
+    fn new(rng: &mut Rng, sizes: Sizes, style: Style) -> Honest<P> {
         let below = sizes.top_block() / 2;
         let count = if sizes.depth == 0 {
             0
@@ -62,6 +72,7 @@ impl Honest {
 
     fn lent(&self) -> LentCode<'_> {
         LentCode {
+            field: Field::of(P),
             depth: self.sizes.depth as u32,
             rate: self.sizes.rate as u32,
             g: &self.code[0],
@@ -100,41 +111,44 @@ impl Honest {
     }
 
     fn eq_is_zero(&self) -> bool {
-        let residues = |words: &[u32]| -> Vec<Residue> {
+        let residues = |words: &[u32]| -> Vec<Residue<P>> {
             words.iter().map(|&w| Residue::new(w).unwrap()).collect()
         };
         eq(&residues(&self.z), &residues(&self.r)) == Residue::ZERO
     }
 }
 
-fn moved(word: &mut u32) {
-    *word = (*word + 1) % Residue::MODULUS;
+fn moved<const P: u32>(word: &mut u32) {
+    *word = (*word + 1) % P;
 }
 
-#[test]
-fn honest_openings_are_accepted_and_no_other_value() {
-    let mut rng = Rng::new(20);
+fn honest_openings_are_accepted_and_no_other_value<const P: u32>() {
+    let mut rng = Rng::new(Field::of(P), 20);
     for depth in 0..=8 {
         for style in STYLES {
             let rate = 2 + rng.below(15);
-            let mut honest = Honest::new(&mut rng, Sizes { depth, rate }, style);
+            let mut honest = Honest::<P>::new(&mut rng, Sizes { depth, rate }, style);
             let mut value = 0;
-            let evaluated =
-                Reference::evaluate(depth as u32, &honest.message, &honest.z, &mut value);
+            let evaluated = Reference::evaluate(
+                Field::of(P),
+                depth as u32,
+                &honest.message,
+                &honest.z,
+                &mut value,
+            );
             assert_eq!((evaluated, value), (Answer::DONE, honest.y));
             assert_eq!(honest.verdict(), (0, 0, 0));
-            moved(&mut honest.y);
+            moved::<P>(&mut honest.y);
             let expected = if depth == 0 { 21 } else { 20 };
             assert_eq!(honest.verdict(), (expected, depth as u32, 0));
         }
     }
 }
 
-#[test]
-fn every_query_accepts_an_honest_opening() {
-    let mut rng = Rng::new(21);
+fn every_query_accepts_an_honest_opening<const P: u32>() {
+    let mut rng = Rng::new(Field::of(P), 21);
     for (depth, rate) in [(1, 2), (2, 2), (3, 3), (4, 2), (2, 16)] {
-        let mut honest = Honest::new(&mut rng, Sizes { depth, rate }, Style::Random);
+        let mut honest = Honest::<P>::new(&mut rng, Sizes { depth, rate }, Style::Random);
         for query in 0..honest.sizes.block(depth - 1) as u32 {
             honest.queries = vec![query];
             assert_eq!(honest.verdict(), (0, 0, 0));
@@ -144,11 +158,10 @@ fn every_query_accepts_an_honest_opening() {
 
 /// Different places are no reason to refuse, however many; one that stands at any two positions is,
 /// for a value that is not shown too.
-#[test]
-fn every_repeat_is_refused() {
-    let mut rng = Rng::new(26);
+fn every_repeat_is_refused<const P: u32>() {
+    let mut rng = Rng::new(Field::of(P), 26);
     for (depth, rate, count) in [(1, 2, 2), (2, 3, 6), (3, 2, 7), (9, 2, 20), (6, 16, 256)] {
-        let mut honest = Honest::new(&mut rng, Sizes { depth, rate }, Style::Random);
+        let mut honest = Honest::<P>::new(&mut rng, Sizes { depth, rate }, Style::Random);
         let places = rng.places(count, honest.sizes.block(depth - 1));
         honest.queries.clone_from(&places);
         assert_eq!(honest.verdict(), (0, 0, 0));
@@ -158,7 +171,7 @@ fn every_repeat_is_refused() {
                 honest.queries[k] = places[j];
                 assert_eq!(honest.verdict(), (11, 0, 0));
                 let y = honest.y;
-                moved(&mut honest.y);
+                moved::<P>(&mut honest.y);
                 assert_eq!(honest.verdict(), (11, 0, 0));
                 honest.y = y;
             }
@@ -166,20 +179,19 @@ fn every_repeat_is_refused() {
     }
 }
 
-#[test]
-fn one_moved_word_of_the_rounds_or_the_final_value() {
-    let mut rng = Rng::new(22);
+fn one_moved_word_of_the_rounds_or_the_final_value<const P: u32>() {
+    let mut rng = Rng::new(Field::of(P), 22);
     for _ in 0..60 {
         let depth = rng.below(6);
         let rate = 2 + rng.below(5);
-        let mut honest = Honest::new(&mut rng, Sizes { depth, rate }, Style::Random);
+        let mut honest = Honest::<P>::new(&mut rng, Sizes { depth, rate }, Style::Random);
         let sizes = honest.sizes;
         assert!(!honest.eq_is_zero());
         for i in 1..=depth {
             for k in 0..3 {
                 let place = sizes.round(i).start + k;
                 let kept = honest.opening[place];
-                moved(&mut honest.opening[place]);
+                moved::<P>(&mut honest.opening[place]);
                 let expected = match (k, i) {
                     (0 | 1, _) => (20, i as u32, 0),
                     // The value at 2 is not in the sum; the next claim moves with it.
@@ -190,18 +202,17 @@ fn one_moved_word_of_the_rounds_or_the_final_value() {
                 honest.opening[place] = kept;
             }
         }
-        moved(&mut honest.opening[sizes.final_value()]);
+        moved::<P>(&mut honest.opening[sizes.final_value()]);
         assert_eq!(honest.verdict(), (21, 0, 0));
     }
 }
 
-#[test]
-fn one_moved_word_of_a_block() {
-    let mut rng = Rng::new(23);
+fn one_moved_word_of_a_block<const P: u32>() {
+    let mut rng = Rng::new(Field::of(P), 23);
     for _ in 0..40 {
         let depth = rng.below(6);
         let rate = 2 + rng.below(5);
-        let mut honest = Honest::new(&mut rng, Sizes { depth, rate }, Style::Random);
+        let mut honest = Honest::<P>::new(&mut rng, Sizes { depth, rate }, Style::Random);
         let sizes = honest.sizes;
         for level in 0..depth {
             let range = sizes.opening_block(level);
@@ -211,7 +222,7 @@ fn one_moved_word_of_a_block() {
                     _ => honest.after_moved_block_word(level, place),
                 };
                 let kept = honest.opening[range.start + place];
-                moved(&mut honest.opening[range.start + place]);
+                moved::<P>(&mut honest.opening[range.start + place]);
                 assert_eq!(honest.verdict(), expected);
                 honest.opening[range.start + place] = kept;
             }
@@ -222,7 +233,7 @@ fn one_moved_word_of_a_block() {
                 _ => honest.after_moved_block_word(depth, place),
             };
             let kept = honest.block[place];
-            moved(&mut honest.block[place]);
+            moved::<P>(&mut honest.block[place]);
             assert_eq!(honest.verdict(), expected);
             honest.block[place] = kept;
         }
@@ -230,30 +241,28 @@ fn one_moved_word_of_a_block() {
 }
 
 /// With eq = 0 the final check says nothing about v; the base check then does.
-#[test]
-fn a_moved_final_value_where_eq_is_zero() {
-    let mut rng = Rng::new(24);
+fn a_moved_final_value_where_eq_is_zero<const P: u32>() {
+    let mut rng = Rng::new(Field::of(P), 24);
     let mut seen = 0;
     while seen < 20 {
         let depth = 1 + rng.below(4);
-        let mut honest = Honest::new(&mut rng, Sizes { depth, rate: 3 }, Style::Extreme);
+        let mut honest = Honest::<P>::new(&mut rng, Sizes { depth, rate: 3 }, Style::Extreme);
         if honest.eq_is_zero() {
             seen += 1;
             assert_eq!(honest.verdict(), (0, 0, 0));
-            moved(&mut honest.opening[3 * depth]);
+            moved::<P>(&mut honest.opening[3 * depth]);
             assert_eq!(honest.verdict(), (22, 0, 0));
         }
     }
 }
 
-#[test]
-fn a_call_that_opens_a_large_size() {
+fn a_call_that_opens_a_large_size<const P: u32>() {
     let sizes = Sizes {
         depth: 16,
         rate: 16,
     };
-    let mut honest = Honest::new(&mut Rng::new(25), sizes, Style::Random);
+    let mut honest = Honest::<P>::new(&mut Rng::new(Field::of(P), 25), sizes, Style::Random);
     assert_eq!(honest.verdict(), (0, 0, 0));
-    moved(&mut honest.y);
+    moved::<P>(&mut honest.y);
     assert_eq!(honest.verdict(), (20, 16, 0));
 }

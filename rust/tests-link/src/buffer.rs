@@ -59,10 +59,11 @@ impl<T: Copy + PartialEq> Buffer<T> {
 #[cfg(test)]
 mod tests {
     use super::*;
+    use tvarchula_reference::Field;
 
     #[test]
     fn a_changed_margin_is_a_difference() {
-        let mut rng = Rng::new(1);
+        let mut rng = Rng::new(Field::First, 1);
         let buffer = Buffer::garbage(3, &mut rng, |word| word);
         assert_eq!(buffer.lent().len(), 3);
         for (place, shown) in [(MARGIN - 1, -1), (MARGIN, 0), (MARGIN + 3, 3)] {

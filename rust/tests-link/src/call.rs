@@ -1,60 +1,10 @@
 //! One call of one job: everything it is lent.
 
-use crate::buffer::Buffer;
+use crate::job::Job;
+use crate::out::Out;
 use std::collections::BTreeMap;
 use std::fmt;
-use tvarchula_reference::LentCode;
-
-/// The jobs.
-#[derive(Clone, Copy, PartialEq, Eq, PartialOrd, Ord, Debug)]
-pub enum Job {
-    /// Reading a word as a clearance.
-    ReadClearance,
-    /// Clearance table to coefficients.
-    TableToCoefficients,
-    /// Coefficients to clearance table.
-    CoefficientsToTable,
-    /// Evaluation.
-    Evaluate,
-    /// Encoding.
-    Encode,
-    /// Decoding.
-    Decode,
-    /// Folding.
-    Fold,
-    /// Writing an opening.
-    WriteOpening,
-    /// Verifying an opening.
-    VerifyOpening,
-}
-
-impl Job {
-    /// The numbers this job can answer.
-    pub fn numbers(self) -> &'static [u32] {
-        match self {
-            Job::ReadClearance => &[0, 4],
-            Job::TableToCoefficients => &[0, 1, 3, 9],
-            Job::CoefficientsToTable | Job::Evaluate => &[0, 1, 3, 4],
-            Job::Encode | Job::WriteOpening => &[0, 1, 2, 3, 4, 5, 6],
-            Job::Decode => &[0, 1, 2, 3, 4, 5, 6, 8],
-            Job::Fold => &[0, 1, 2, 3, 4, 6],
-            Job::VerifyOpening => &[0, 1, 2, 3, 4, 5, 6, 7, 11, 20, 21, 22, 23],
-        }
-    }
-
-    /// The inputs that 4 can name of this job, by the order's numbers.
-    pub fn named(self) -> &'static [u32] {
-        match self {
-            Job::TableToCoefficients => &[],
-            Job::ReadClearance | Job::CoefficientsToTable => &[4],
-            Job::Evaluate => &[4, 5],
-            Job::Encode | Job::Decode => &[1, 2, 3, 4],
-            Job::Fold => &[2, 3, 4, 7],
-            Job::WriteOpening => &[1, 2, 3, 4, 5, 7],
-            Job::VerifyOpening => &[1, 2, 3, 4, 5, 6, 7, 8],
-        }
-    }
-}
+use tvarchula_reference::{Field, LentCode, LentLevel};
 
 /// What a job reads, as words, in the order in which they are judged.
 #[derive(Clone, Copy, PartialEq, Eq, PartialOrd, Ord, Debug)]
@@ -123,6 +73,8 @@ pub struct Call {
 /// What a call reads. What the job is not lent is absent.
 #[derive(Clone, PartialEq, Eq, Debug, Default)]
 pub struct Lent {
+    /// Field. Filling is lent none, and is for the second.
+    pub field: Field,
     /// Depth, for folding the upper level.
     pub depth: Option<u32>,
     /// Rate.
@@ -159,9 +111,21 @@ impl Lent {
         self.rate.expect("a job with a rate")
     }
 
+    /// The one level that folding is lent.
+    pub fn level(&self) -> LentLevel<'_> {
+        LentLevel {
+            field: self.field,
+            level: self.depth(),
+            rate: self.rate(),
+            t: self.words(Input::T),
+            t2: self.words(Input::T2),
+        }
+    }
+
     /// The code.
     pub fn code(&self) -> LentCode<'_> {
         LentCode {
+            field: self.field,
             depth: self.depth(),
             rate: self.rate(),
             g: self.words(Input::G),
@@ -171,56 +135,16 @@ impl Lent {
     }
 }
 
-/// What a call may write. What the job is not lent is absent.
-#[derive(Clone, PartialEq, Eq, Debug, Default)]
-pub struct Out {
-    /// The result.
-    pub result: Option<Buffer<u32>>,
-    /// The result, if it is a table.
-    pub table: Option<Buffer<i32>>,
-    /// The work buffer.
-    pub work: Option<Buffer<u32>>,
-    /// The single result.
-    pub value: u32,
-    /// Kind and amount of a reading, else zeros.
-    pub reading: (u32, u32),
-}
-
-/// The lent parts of what a call may write, empty where absent.
-#[derive(Debug)]
-pub struct Parts<'a> {
-    /// The result.
-    pub result: &'a mut [u32],
-    /// The result, if it is a table.
-    pub table: &'a mut [i32],
-    /// The work buffer.
-    pub work: &'a mut [u32],
-    /// The single result.
-    pub value: &'a mut u32,
-    /// Kind and amount of a reading.
-    pub reading: &'a mut (u32, u32),
-}
-
-impl Out {
-    /// The lent parts.
-    pub fn parts(&mut self) -> Parts<'_> {
-        Parts {
-            result: self.result.as_mut().map_or(&mut [], Buffer::lent_mut),
-            table: self.table.as_mut().map_or(&mut [], Buffer::lent_mut),
-            work: self.work.as_mut().map_or(&mut [], Buffer::lent_mut),
-            value: &mut self.value,
-            reading: &mut self.reading,
-        }
-    }
-}
-
 impl Call {
-    /// A call of a job that is lent nothing yet.
-    pub fn new(job: Job) -> Call {
+    /// A call of a job over a field that is lent nothing else yet.
+    pub fn new(job: Job, field: Field) -> Call {
         Call {
             job,
             note: String::new(),
-            lent: Lent::default(),
+            lent: Lent {
+                field,
+                ..Lent::default()
+            },
             out: Out::default(),
         }
     }
@@ -239,17 +163,14 @@ impl Call {
         let slices = read.filter(|(input, _)| !input.is_single());
         let read: usize = slices.map(|(_, words)| size_of_val(&words[..])).sum();
         let table = self.lent.table.as_deref().map_or(0, size_of_val);
-        let words = [&self.out.result, &self.out.work];
-        let words = words.into_iter().flatten();
-        let written: usize = words.map(|buffer| size_of_val(buffer.lent())).sum();
-        let back = self.out.table.as_ref();
-        read + table + written + back.map_or(0, |buffer| size_of_val(buffer.lent()))
+        read + table + self.out.bytes()
     }
 }
 
 impl fmt::Display for Call {
     fn fmt(&self, f: &mut fmt::Formatter) -> fmt::Result {
         write!(f, "{:?} ({})", self.job, self.note)?;
+        write!(f, "\n  field {:?}", self.lent.field)?;
         for (name, number) in [("depth", self.lent.depth), ("rate", self.lent.rate)] {
             if let Some(number) = number {
                 write!(f, "\n  {name} {number}")?;
@@ -261,13 +182,8 @@ impl fmt::Display for Call {
         if let Some(table) = &self.lent.table {
             write!(f, "\n  table: {}", shown(table))?;
         }
-        let result = self.out.result.as_ref().map(|b| b.lent().len());
-        let table = self.out.table.as_ref().map(|b| b.lent().len());
-        let work = self.out.work.as_ref().map(|b| b.lent().len());
-        for (name, length) in [("result", result.or(table)), ("work", work)] {
-            if let Some(length) = length {
-                write!(f, "\n  {name}: {length} words")?;
-            }
+        for (name, length) in self.out.lengths() {
+            write!(f, "\n  {name}: {length} words")?;
         }
         Ok(())
     }
@@ -290,18 +206,8 @@ mod tests {
 
     #[test]
     fn what_4_can_name_is_what_is_lent() {
-        for job in [
-            Job::ReadClearance,
-            Job::TableToCoefficients,
-            Job::CoefficientsToTable,
-            Job::Evaluate,
-            Job::Encode,
-            Job::Decode,
-            Job::Fold,
-            Job::WriteOpening,
-            Job::VerifyOpening,
-        ] {
-            let call = formed(job, Shape::random(2, 3), &mut Rng::new(1));
+        for job in Job::ALL {
+            let call = formed(job, Shape::random(2, 3), &mut Rng::new(Field::Second, 1));
             let lent = call.lent.words.keys();
             let numbers: Vec<u32> = lent.filter_map(|input| input.number()).collect();
             assert_eq!(numbers, job.named(), "{job:?}");

@@ -1,7 +1,8 @@
 //! Runs one call on two implementations and compares everything.
 
 use crate::buffer::Buffer;
-use crate::call::{Call, Out};
+use crate::call::Call;
+use crate::out::Out;
 use crate::place;
 use crate::tally::Tally;
 use std::fmt;
@@ -98,14 +99,24 @@ fn difference(left: &Ran, right: &Ran) -> Option<String> {
     }
     buffers("result", &a.result, &b.result)
         .or_else(|| buffers("table", &a.table, &b.table))
+        .or_else(|| rows(&a.rows, &b.rows))
         .or_else(|| buffers("work", &a.work, &b.work))
+}
+
+fn rows(a: &Option<[Buffer<u32>; 3]>, b: &Option<[Buffer<u32>; 3]>) -> Option<String> {
+    let pairs = a.as_ref()?.iter().zip(b.as_ref()?);
+    let mut named = pairs.zip(["g", "T", "T'"]);
+    named.find_map(|((a, b), name)| differs(name, a, b))
 }
 
 fn buffers<T>(name: &str, a: &Option<Buffer<T>>, b: &Option<Buffer<T>>) -> Option<String>
 where
     T: Copy + PartialEq,
 {
-    let (a, b) = (a.as_ref()?, b.as_ref()?);
+    differs(name, a.as_ref()?, b.as_ref()?)
+}
+
+fn differs<T: Copy + PartialEq>(name: &str, a: &Buffer<T>, b: &Buffer<T>) -> Option<String> {
     let place = a.first_difference(b)?;
     let length = a.lent().len();
     Some(format!("{name} differs first at {place} of {length}"))
@@ -123,9 +134,7 @@ fn fault(before: &Call, after: &Ran) -> Option<String> {
         _ => answer.first == 0 && answer.second == 0,
     };
     let first = !(4..=6).contains(&number) || place::is_first(&before.lent, answer);
-    let results = before.out.result == after.out.result
-        && before.out.table == after.out.table
-        && before.out.value == after.out.value;
+    let results = before.out.same_results(&after.out);
     let unread = after.out.reading == (0, 0);
     let work = match &after.out.work {
         Some(work) if number == 0 || number == 8 => work.lent().iter().all(|&word| word == 0),
@@ -146,11 +155,12 @@ fn fault(before: &Call, after: &Ran) -> Option<String> {
 #[cfg(test)]
 mod tests {
     use super::*;
-    use crate::call::{Input, Job};
+    use crate::call::Input;
     use crate::good::{formed, Shape};
+    use crate::job::Job;
     use crate::run;
     use tvarchula_reference::sample::Rng;
-    use tvarchula_reference::Reference;
+    use tvarchula_reference::{Field, Reference};
 
     #[test]
     fn a_changed_input_is_a_difference_even_if_both_change_it() {
@@ -159,7 +169,11 @@ mod tests {
             call.lent.words_mut(Input::Z)[0] ^= 1;
             answer
         }
-        let call = formed(Job::Evaluate, Shape::random(3, 2), &mut Rng::new(1));
+        let call = formed(
+            Job::Evaluate,
+            Shape::random(3, 2),
+            &mut Rng::new(Field::First, 1),
+        );
         for sides in [
             [run::any::<Reference>, changes as Runner],
             [changes, run::any::<Reference>],
@@ -179,7 +193,11 @@ mod tests {
             let first = answer.first + u32::from(answer.number == 4);
             Answer { first, ..answer }
         }
-        let mut call = formed(Job::Evaluate, Shape::random(3, 2), &mut Rng::new(1));
+        let mut call = formed(
+            Job::Evaluate,
+            Shape::random(3, 2),
+            &mut Rng::new(Field::First, 1),
+        );
         call.lent.words_mut(Input::Z)[1..].fill(u32::MAX);
         let found = Comparison::new(second_word, second_word).check(&call);
         let what = found.expect_err("a wrong place").what;
@@ -197,7 +215,11 @@ mod tests {
             call.out.reading = (1, 7);
             answer
         }
-        let mut call = formed(Job::ReadClearance, Shape::random(0, 2), &mut Rng::new(1));
+        let mut call = formed(
+            Job::ReadClearance,
+            Shape::random(0, 2),
+            &mut Rng::new(Field::First, 1),
+        );
         call.lent.words_mut(Input::Word)[0] = u32::MAX;
         let found = Comparison::new(reads, reads).check(&call);
         let what = found.expect_err("a reading").what;

@@ -1,11 +1,11 @@
 //! Damages: each spoils a call in one way, legal words moved by one included.
 
+use crate::buffer::Buffer;
 use crate::call::{Call, Input};
+use tvarchula_reference::field::{FIRST, SECOND};
 use tvarchula_reference::sample::Rng;
 use tvarchula_reference::sizes::MAX_DEPTH;
-use tvarchula_reference::Residue;
-
-const P: u32 = Residue::MODULUS;
+use tvarchula_reference::Field;
 
 /// A lent slice whose length can be wrong.
 #[derive(Clone, Copy, PartialEq, Eq, Debug)]
@@ -18,6 +18,8 @@ pub enum Slice {
     Result,
     /// The table that is written.
     TableResult,
+    /// One of the rows that filling writes.
+    Row(usize),
     /// The work buffer.
     Work,
 }
@@ -55,7 +57,7 @@ pub enum Damage {
     Rate(u32),
     /// A slice of a wrong length.
     Length(Slice, Length),
-    /// A word, or a single value, of p or more.
+    /// A word, or a single value, mostly of p or more.
     Word(Input, u32, Place),
     /// A word moved by one, still a residue.
     Moved(Input, Place),
@@ -86,6 +88,12 @@ const NAMED: [Place; 4] = [Place::First, Place::Middle, Place::Last, Place::Any]
 /// Every damage that a call can take.
 pub fn all(call: &Call) -> Vec<Damage> {
     let lent = &call.lent;
+    let p = lent.field.modulus();
+    // A residue of the first field and none of the second.
+    let between = match lent.field {
+        Field::First => SECOND,
+        Field::Second => FIRST - 1,
+    };
     let mut damages = Vec::new();
     if let Some(depth) = lent.depth {
         let others = [20, 21, 31, 32, 33, 64, u32::MAX, 0, depth + 1];
@@ -101,9 +109,9 @@ pub fn all(call: &Call) -> Vec<Damage> {
         damages.extend(lengths.map(|length| Damage::Length(slice, length)));
     }
     for &input in lent.words.keys().filter(|&&input| input != Input::Queries) {
-        damages.extend(NAMED.map(|place| Damage::Word(input, P, place)));
+        damages.extend(NAMED.map(|place| Damage::Word(input, p, place)));
         damages.extend(PLACES.map(|place| Damage::Moved(input, place)));
-        let words = [P + 1, 2 * P, u32::MAX];
+        let words = [p + 1, 2 * p, u32::MAX, between];
         damages.extend(words.map(|word| Damage::Word(input, word, Place::Any)));
     }
     if lent.words.contains_key(&Input::G) {
@@ -121,10 +129,17 @@ pub fn all(call: &Call) -> Vec<Damage> {
         damages.push(Damage::QueryFilled(256));
     }
     if lent.table.is_some() {
-        let edge = 1_073_741_823;
+        let edge = lent.field.max_clearance();
         let words = [edge, -edge, edge + 1, -edge - 1, i32::MAX, i32::MIN];
         for word in words {
             damages.extend(PLACES.map(|place| Damage::Clearance(word, place)));
+        }
+        // Clearances of the first field and none of the second.
+        for word in [1_006_632_961, 1_073_741_823]
+            .map(|word| [word, -word])
+            .concat()
+        {
+            damages.push(Damage::Clearance(word, Place::Any));
         }
     }
     damages
@@ -147,17 +162,29 @@ fn slices(call: &Call) -> Vec<Slice> {
             .filter(|(lent, _)| *lent)
             .map(|(_, slice)| slice),
     );
+    let rows = call.out.rows.iter().flatten().enumerate();
+    slices.extend(rows.map(|(row, _)| Slice::Row(row)));
     slices
 }
 
+/// Words that are no residues of a field: around the ends of either.
+pub fn refused_words(field: Field) -> Vec<u32> {
+    let ends = [FIRST, SECOND, 2 * FIRST, 2 * SECOND];
+    let around = ends.iter().flat_map(|&end| [end - 1, end, end + 1]);
+    let words = around.chain([u32::MAX]);
+    words.filter(|&word| word >= field.modulus()).collect()
+}
+
 /// The next residue after a word.
-pub fn moved(word: u32) -> u32 {
-    (word % P + 1) % P
+pub fn moved(field: Field, word: u32) -> u32 {
+    let p = field.modulus();
+    (word % p + 1) % p
 }
 
 /// The residue before a word.
-pub fn moved_back(word: u32) -> u32 {
-    (word % P + P - 1) % P
+pub fn moved_back(field: Field, word: u32) -> u32 {
+    let p = field.modulus();
+    (word % p + p - 1) % p
 }
 
 /// Spoils a call. A damage that finds no word to change does nothing.
@@ -170,7 +197,10 @@ pub fn apply(call: &mut Call, damage: Damage, rng: &mut Rng) {
         Damage::Rate(rate) => lent.rate = Some(rate),
         Damage::Length(slice, length) => resize(call, slice, length),
         Damage::Word(input, word, place) => change(lent.words_mut(input), place, rng, |_| word),
-        Damage::Moved(input, place) => change(lent.words_mut(input), place, rng, moved),
+        Damage::Moved(input, place) => {
+            let field = lent.field;
+            change(lent.words_mut(input), place, rng, |word| moved(field, word));
+        }
         Damage::ZeroInRow(place) => change(lent.words_mut(Input::G), place, rng, |_| 0),
         Damage::EqualPair(place) => {
             let t = lent.words(Input::T).to_vec();
@@ -231,11 +261,8 @@ fn resize(call: &mut Call, slice: Slice, length: Length) {
             Length::Empty => words.clear(),
         }
     }
-    fn resize_buffer<T: Copy + PartialEq>(
-        buffer: &mut Option<crate::buffer::Buffer<T>>,
-        length: Length,
-    ) {
-        let buffer = buffer.as_mut().expect("a buffer");
+    fn resize_buffer<T: Copy + PartialEq>(buffer: Option<&mut Buffer<T>>, length: Length) {
+        let buffer = buffer.expect("a buffer");
         match length {
             Length::Longer => buffer.lengthen(),
             Length::Shorter => buffer.shorten(),
@@ -245,9 +272,10 @@ fn resize(call: &mut Call, slice: Slice, length: Length) {
     match slice {
         Slice::Read(input) => resize_words(call.lent.words_mut(input), length),
         Slice::Table => resize_words(call.lent.table.as_mut().expect("a table"), length),
-        Slice::Result => resize_buffer(&mut call.out.result, length),
-        Slice::TableResult => resize_buffer(&mut call.out.table, length),
-        Slice::Work => resize_buffer(&mut call.out.work, length),
+        Slice::Result => resize_buffer(call.out.result.as_mut(), length),
+        Slice::TableResult => resize_buffer(call.out.table.as_mut(), length),
+        Slice::Work => resize_buffer(call.out.work.as_mut(), length),
+        Slice::Row(row) => resize_buffer(call.out.rows.as_mut().map(|rows| &mut rows[row]), length),
     }
 }
 

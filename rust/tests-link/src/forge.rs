@@ -1,13 +1,14 @@
 //! Dishonest but well-formed claims that pass the earlier checks, so that the later ones decide.
 
-use crate::call::{Call, Input, Job};
+use crate::call::{Call, Input};
 use crate::good::{self, Shape};
+use crate::job::Job;
 use tvarchula_reference::encode::codeword;
 use tvarchula_reference::fold::fold_block;
 use tvarchula_reference::sample::Rng;
 use tvarchula_reference::sumcheck::{eq, quadratic_at, sent_places};
 use tvarchula_reference::verify::judge_claim;
-use tvarchula_reference::Residue;
+use tvarchula_reference::{over, Residue};
 
 /// A claim with any claimed value whose block of `level` is not the fold of the block above it: a
 /// codeword of another message (`whole`), or the fold with one word moved, which shows in the base
@@ -15,9 +16,13 @@ use tvarchula_reference::Residue;
 /// are made to fit: the sum checks hold, and the final one unless r_0 is 0 or 1, which leaves
 /// nothing to fit with.
 pub fn claim(shape: Shape, level: usize, whole: bool, rng: &mut Rng) -> Call {
+    over!(rng.field(), P => claim_over::<P>(shape, level, whole, rng))
+}
+
+fn claim_over<const P: u32>(shape: Shape, level: usize, whole: bool, rng: &mut Rng) -> Call {
     let mut call = good::call(Job::VerifyOpening, shape, rng);
     let words = |input| call.lent.words(input);
-    let judged = judge_claim(
+    let judged = judge_claim::<P>(
         call.lent.code(),
         words(Input::Block),
         words(Input::Z),
@@ -59,13 +64,13 @@ pub fn claim(shape: Shape, level: usize, whole: bool, rng: &mut Rng) -> Call {
 }
 
 /// Rounds that lead from the claim y to the claim `last`, where r_0 allows it.
-fn fitting_rounds(
-    y: Residue,
-    last: Residue,
-    r: &[Residue],
+fn fitting_rounds<const P: u32>(
+    y: Residue<P>,
+    last: Residue<P>,
+    r: &[Residue<P>],
     shape: Shape,
     rng: &mut Rng,
-) -> Vec<Residue> {
+) -> Vec<Residue<P>> {
     let mut claimed = y;
     let mut rounds = Vec::new();
     for i in (1..=r.len()).rev() {

@@ -1,14 +1,15 @@
 //! Well-formed calls: every slice of its exact length, every word a residue, nothing to refuse.
 
 use crate::buffer::Buffer;
-use crate::call::{Call, Input, Job};
+use crate::call::{Call, Input};
+use crate::job::Job;
 use crate::run;
 use tvarchula_reference::clearance::from_residue;
 use tvarchula_reference::sample::{Rng, Style, STYLES};
 use tvarchula_reference::sizes::{Sizes, MAX_QUERIES};
-use tvarchula_reference::{Answer, CodeJobs, Reference};
+use tvarchula_reference::{over, Answer, CodeJobs, Reference};
 
-/// Sizes and styles of a call.
+/// Sizes and styles of a call. Its field is that of the generator which makes it.
 #[derive(Clone, Copy, Debug)]
 pub struct Shape {
     /// Depth (for folding the upper level, at least 1) and rate, legal or not.
@@ -26,6 +27,14 @@ impl Shape {
             sizes: Sizes { depth, rate },
             code: rng.pick(&STYLES),
             words: rng.pick(&STYLES),
+        }
+    }
+
+    /// A shape with a filled code, of the second field.
+    pub fn filled(depth: usize, rate: usize) -> Shape {
+        Shape {
+            code: Style::Roots,
+            ..Shape::random(depth, rate)
         }
     }
 
@@ -57,7 +66,7 @@ pub fn call(job: Job, shape: Shape, rng: &mut Rng) -> Call {
 pub fn formed(job: Job, shape: Shape, rng: &mut Rng) -> Call {
     let Shape { sizes, words, .. } = shape;
     let depth = sizes.depth;
-    let mut call = Call::new(job);
+    let mut call = Call::new(job, rng.field());
     call.add_note(&format!("{:?} code, {words:?} words", shape.code));
     call.out.value = rng.word();
     let [message, block, opening] = [sizes.message(), sizes.top_block(), sizes.opening()];
@@ -65,8 +74,11 @@ pub fn formed(job: Job, shape: Shape, rng: &mut Rng) -> Call {
     match job {
         Job::ReadClearance => inputs.push((Input::Word, 1)),
         Job::TableToCoefficients => {
-            let table = rng.residues(message, words);
-            call.lent.table = Some(table.into_iter().map(from_residue).collect());
+            let table = over!(rng.field(), P => {
+                let residues = rng.residues::<P>(message, words);
+                residues.into_iter().map(from_residue).collect()
+            });
+            call.lent.table = Some(table);
             result = Some(message);
         }
         Job::CoefficientsToTable => {
@@ -104,6 +116,11 @@ pub fn formed(job: Job, shape: Shape, rng: &mut Rng) -> Call {
             (Input::R, depth),
             (Input::Opening, opening),
         ]),
+        Job::FillRoots => {
+            let diagonal = sizes.diagonals();
+            let row = |length| Buffer::garbage(length, rng, |word| word);
+            call.out.rows = Some([sizes.rate, diagonal, diagonal].map(row));
+        }
     }
     for (input, length) in inputs {
         call.lent.words.insert(input, rng.words(length, words));
@@ -123,6 +140,8 @@ fn lend_code(call: &mut Call, shape: Shape, rng: &mut Rng) {
     }
     if call.job >= Job::Encode {
         lent.rate = Some(sizes.rate as u32);
+    }
+    if (Job::Encode..Job::FillRoots).contains(&call.job) {
         let [g, mut t, mut t2] = rng.code(&sizes, shape.code);
         if call.job == Job::Fold {
             t = t.split_off(sizes.diagonal(sizes.depth - 1).start);
@@ -230,7 +249,7 @@ fn make_honest(call: &mut Call, shape: Shape, rng: &mut Rng) {
 /// The claim that a call which writes an opening leads to, with any legal queries.
 pub fn honest(writing: &Call, shape: Shape, rng: &mut Rng) -> Call {
     let mut writing = writing.clone();
-    let mut call = Call::new(Job::VerifyOpening);
+    let mut call = Call::new(Job::VerifyOpening, writing.lent.field);
     call.lent = writing.lent.clone();
     let message = call.lent.words.remove(&Input::Message).expect("a message");
     let mut block = vec![0; shape.sizes.top_block()];

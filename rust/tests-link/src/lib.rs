@@ -10,16 +10,19 @@ pub mod compare;
 pub mod damage;
 pub mod forge;
 pub mod good;
+pub mod job;
 pub mod large;
 #[cfg(any(feature = "ground", feature = "code", feature = "opening"))]
 pub mod linked;
+pub mod out;
 pub mod place;
 pub mod run;
 pub mod sweep;
 pub mod tally;
 
-pub use call::{Call, Input, Job};
+pub use call::{Call, Input};
 pub use compare::{Comparison, Difference, Runner};
+pub use job::Job;
 pub use tally::Tally;
 
 /// How many times the usual number of random cases: 10 when TVARCHULA_LONG is 1.

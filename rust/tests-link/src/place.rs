@@ -2,9 +2,7 @@
 //! not in what any side says.
 
 use crate::call::{Input, Lent};
-use tvarchula_reference::{Answer, Residue};
-
-const P: u32 = Residue::MODULUS;
+use tvarchula_reference::Answer;
 
 /// Of 4, 5 and 6: something offends at the named place, and nothing does before it.
 pub fn is_first(lent: &Lent, answer: Answer) -> bool {
@@ -19,7 +17,7 @@ pub fn is_first(lent: &Lent, answer: Answer) -> bool {
     }
 }
 
-/// Whether the word is p or more, and every word before it in its input and in those before is not.
+/// Whether the word is the modulus of the lent field or more, and every word before it in its input and in those before is not.
 fn is_first_word(lent: &Lent, number: u32, index: usize) -> bool {
     let judged = || {
         let inputs = lent.words.keys();
@@ -29,7 +27,7 @@ fn is_first_word(lent: &Lent, number: u32, index: usize) -> bool {
         return false;
     };
     let mut before = judged().filter(|(_, other)| *other < number);
-    let high = |word: &u32| *word >= P;
+    let high = |word: &u32| *word >= lent.field.modulus();
     before.all(|(input, _)| !lent.words(input).iter().any(high))
         && ends_at(lent, named, index, |word, _| high(&word))
 }
@@ -46,10 +44,14 @@ fn ends_at(lent: &Lent, input: Input, index: usize, offends: impl Fn(u32, usize)
 #[cfg(test)]
 mod tests {
     use super::*;
+    use tvarchula_reference::{over_both, Field};
 
-    fn lent(inputs: &[(Input, &[u32])]) -> Lent {
+    over_both!(the_first_word_of_the_first_input the_first_zero_and_the_first_pair);
+
+    fn lent<const P: u32>(inputs: &[(Input, &[u32])]) -> Lent {
         let words = inputs.iter().map(|(input, words)| (*input, words.to_vec()));
         Lent {
+            field: Field::of(P),
             words: words.collect(),
             ..Lent::default()
         }
@@ -74,8 +76,7 @@ mod tests {
         }
     }
 
-    #[test]
-    fn the_first_word_of_the_first_input() {
+    fn the_first_word_of_the_first_input<const P: u32>() {
         let all: [(Input, &[u32]); 5] = [
             (Input::G, &[1, 2]),
             (Input::Block, &[0, P, 3, P]),
@@ -83,26 +84,25 @@ mod tests {
             (Input::Queries, &[P]),
             (Input::Opening, &[P, P]),
         ];
-        only(&lent(&all), 4, (1, 4));
-        only(&lent(&all[2..]), 4, (0, 5));
-        only(&lent(&all[3..]), 4, (0, 8));
-        assert!(!named(&lent(&all[3..4]), 4, 0, 0));
-        only(&lent(&[(Input::Word, &[P + 1])]), 4, (0, 4));
-        only(&lent(&[(Input::Message, &[P - 1, P])]), 4, (1, 4));
+        only(&lent::<P>(&all), 4, (1, 4));
+        only(&lent::<P>(&all[2..]), 4, (0, 5));
+        only(&lent::<P>(&all[3..]), 4, (0, 8));
+        assert!(!named(&lent::<P>(&all[3..4]), 4, 0, 0));
+        only(&lent::<P>(&[(Input::Word, &[P + 1])]), 4, (0, 4));
+        only(&lent::<P>(&[(Input::Message, &[P - 1, P])]), 4, (1, 4));
         let folded: [(Input, &[u32]); 2] = [(Input::Block, &[1]), (Input::Challenge, &[P])];
-        only(&lent(&folded), 4, (0, 7));
+        only(&lent::<P>(&folded), 4, (0, 7));
     }
 
-    #[test]
-    fn the_first_zero_and_the_first_pair() {
-        let row = lent(&[(Input::G, &[1, 1, 0, 2, 0])]);
+    fn the_first_zero_and_the_first_pair<const P: u32>() {
+        let row = lent::<P>(&[(Input::G, &[1, 1, 0, 2, 0])]);
         only(&row, 5, (2, 0));
-        let pair = lent(&[(Input::T, &[1, 0, 3, 4]), (Input::T2, &[2, 1, 3, 4])]);
+        let pair = lent::<P>(&[(Input::T, &[1, 0, 3, 4]), (Input::T2, &[2, 1, 3, 4])]);
         only(&pair, 6, (2, 0));
         let none: [(Input, &[u32]); 3] =
             [(Input::G, &[1]), (Input::T, &[1, 2]), (Input::T2, &[2, 1])];
         for number in [4, 5, 6] {
-            only(&lent(&none), number, (u32::MAX, 0));
+            only(&lent::<P>(&none), number, (u32::MAX, 0));
         }
     }
 }

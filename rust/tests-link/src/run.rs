@@ -1,12 +1,13 @@
 //! Runs a call on an implementation of its job.
 
-use crate::call::{Call, Input, Job};
+use crate::call::{Call, Input};
+use crate::job::Job;
 use tvarchula_reference::{Answer, CodeJobs, GroundJobs, OpeningJobs};
 
 /// Runs a call of any group.
 pub fn any<J: GroundJobs + CodeJobs + OpeningJobs>(call: &mut Call) -> Answer {
     match call.job {
-        Job::Encode | Job::Decode | Job::Fold => code::<J>(call),
+        Job::Encode | Job::Decode | Job::Fold | Job::FillRoots => code::<J>(call),
         Job::WriteOpening | Job::VerifyOpening => opening::<J>(call),
         _ => ground::<J>(call),
     }
@@ -17,18 +18,19 @@ pub fn ground<J: GroundJobs>(call: &mut Call) -> Answer {
     let (lent, out) = (&call.lent, call.out.parts());
     match call.job {
         Job::ReadClearance => {
-            let reading = J::read_clearance(lent.single(Input::Word));
+            let reading = J::read_clearance(lent.field, lent.single(Input::Word));
             *out.reading = (reading.kind, reading.amount);
             reading.answer
         }
         Job::TableToCoefficients => {
             let table = lent.table.as_ref().expect("a table");
-            J::table_to_coefficients(table, out.result)
+            J::table_to_coefficients(lent.field, table, out.result)
         }
         Job::CoefficientsToTable => {
-            J::coefficients_to_table(lent.words(Input::Message), out.table, out.work)
+            J::coefficients_to_table(lent.field, lent.words(Input::Message), out.table, out.work)
         }
         Job::Evaluate => J::evaluate(
+            lent.field,
             lent.depth(),
             lent.words(Input::Message),
             lent.words(Input::Z),
@@ -45,14 +47,15 @@ pub fn code<J: CodeJobs>(call: &mut Call) -> Answer {
         Job::Encode => J::encode(lent.code(), lent.words(Input::Message), out.result),
         Job::Decode => J::decode(lent.code(), lent.words(Input::Block), out.result, out.work),
         Job::Fold => J::fold(
-            lent.depth(),
-            lent.rate(),
-            lent.words(Input::T),
-            lent.words(Input::T2),
+            lent.level(),
             lent.words(Input::Block),
             lent.single(Input::Challenge),
             out.result,
         ),
+        Job::FillRoots => {
+            let [g, t, t2] = out.rows;
+            J::fill_roots(lent.depth(), lent.rate(), g, t, t2)
+        }
         other => unreachable!("{other:?} is of another group"),
     }
 }

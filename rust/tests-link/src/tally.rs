@@ -1,6 +1,6 @@
 //! How many calls were compared, by job and by the number answered.
 
-use crate::call::Job;
+use crate::job::Job;
 use std::collections::{BTreeMap, BTreeSet};
 use std::fmt;
 use std::io::Write;

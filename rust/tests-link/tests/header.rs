@@ -1,4 +1,4 @@
-//! The constants and structs of `include/tvarchula.h` and those of `tvarchula-sys` are the same.
+//! The constants, structs and functions of `include/tvarchula.h` and those of `tvarchula-sys` are the same.
 
 use std::collections::BTreeMap;
 use std::fs::read_to_string;
@@ -13,8 +13,11 @@ fn text(name: &str) -> String {
     read_to_string(&path).unwrap_or_else(|error| panic!("{}: {error}", path.display()))
 }
 
-/// A number as C or Rust writes it.
+/// A number as C or Rust writes it; a truth value counts as C's.
 fn number(word: &str) -> Option<i64> {
+    if let Ok(truth) = word.parse::<bool>() {
+        return Some(truth.into());
+    }
     let digits = word.trim_end_matches('u').replace('_', "");
     digits.parse().ok()
 }
@@ -53,7 +56,73 @@ fn constants() {
     assert_eq!(parts.join("."), tvarchula_sys::TV_VERSION);
     header.retain(|name, _| !name.starts_with("TV_VERSION"));
     assert!(header.len() >= 20, "{header:?}");
+    assert_eq!(header["TV_FIELD_1"], 0);
+    assert_eq!(header["TV_FIELD_2"], 1);
     assert_eq!(header, of_rust());
+}
+
+/// The parameters of every function, from each `start` to the next `)`: their names and Rust's types.
+fn functions(
+    source: &str,
+    start: &str,
+    parameter: fn(&str) -> (String, String),
+) -> BTreeMap<String, Vec<(String, String)>> {
+    let declared = source.split(start).skip(1);
+    let function = |text: &str| {
+        let (name, rest) = text.split_once('(')?;
+        let name = name.rsplit(' ').next()?.to_owned();
+        let (list, _) = rest.split_once(')')?;
+        let list = list.split(',').map(str::trim).filter(|p| !p.is_empty());
+        Some((name, list.map(parameter).collect()))
+    };
+    declared.filter_map(function).collect()
+}
+
+/// `const uint32_t *name` and so on.
+fn of_c(parameter: &str) -> (String, String) {
+    let words: Vec<&str> = parameter.split_whitespace().collect();
+    let (last, types) = words.split_last().expect("a type and a name");
+    let name = last.trim_start_matches('*');
+    let pointer = if last.starts_with('*') { "*" } else { "" };
+    let kind = match (types, pointer) {
+        (["bool"], "") => "bool",
+        (["uint32_t"], "") => "u32",
+        (["size_t"], "") => "usize",
+        (["const", "uint32_t"], "*") => "*const u32",
+        (["const", "int32_t"], "*") => "*const i32",
+        (["uint32_t"], "*") => "*mut u32",
+        (["int32_t"], "*") => "*mut i32",
+        other => panic!("{other:?}"),
+    };
+    (name.to_owned(), kind.to_owned())
+}
+
+/// `name: type`, where three types have names of their own.
+fn of_sys(parameter: &str) -> (String, String) {
+    let (name, kind) = parameter.split_once(": ").expect("a name and a type");
+    let kind = match kind {
+        "Read" => "*const u32",
+        "Write" => "*mut u32",
+        "Len" => "usize",
+        other => other,
+    };
+    (name.to_owned(), kind.to_owned())
+}
+
+#[test]
+fn parameters() {
+    let header = text("include/tvarchula.h");
+    let header = functions(&header, "\nTV_MUST_USE ", of_c);
+    let sys = functions(
+        &text("rust/tvarchula-sys/src/functions.rs"),
+        "pub fn ",
+        of_sys,
+    );
+    assert_eq!(header.len(), 10);
+    assert_eq!(header, sys);
+    let without_field = header.iter().filter(|(_, list)| list[0].0 != "field");
+    let without_field: Vec<_> = without_field.map(|(name, _)| &name[..]).collect();
+    assert_eq!(without_field, ["tv_fill_roots"]);
 }
 
 /// The numbers of a struct in the header, in their order; another struct in it counts as its numbers.

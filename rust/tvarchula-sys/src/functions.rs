@@ -1,4 +1,5 @@
-//! The functions. The header says what each is lent, and how long each slice has to be.
+//! The functions. The header says what each is lent, and how long each slice has to be. `field` is
+//! [`TV_FIELD_1`](crate::TV_FIELD_1) or [`TV_FIELD_2`](crate::TV_FIELD_2).
 
 use crate::{tv_answer, tv_reading};
 
@@ -12,45 +13,49 @@ type Len = usize;
 #[rustfmt::skip]
 extern "C" {
     /// Reads a word as a clearance.
-    pub fn tv_read_clearance(word: u32) -> tv_reading;
+    pub fn tv_read_clearance(field: bool, word: u32) -> tv_reading;
     /// Clearance table to coefficients.
     pub fn tv_table_to_coefficients(
-        clearances: *const i32, clearances_len: Len, message: Write, message_len: Len,
+        field: bool, clearances: *const i32, clearances_len: Len, message: Write, message_len: Len,
     ) -> tv_answer;
     /// Coefficients to clearance table.
     pub fn tv_coefficients_to_table(
-        message: Read, message_len: Len, clearances: *mut i32, clearances_len: Len,
+        field: bool, message: Read, message_len: Len, clearances: *mut i32, clearances_len: Len,
         work: Write, work_len: Len,
     ) -> tv_answer;
     /// The polynomial's value at a point.
     pub fn tv_evaluate(
-        depth: u32, message: Read, message_len: Len, z: Read, z_len: Len, value: *mut u32,
+        field: bool, depth: u32, message: Read, message_len: Len, z: Read, z_len: Len, value: *mut u32,
     ) -> tv_answer;
     /// The codeword of a message.
     pub fn tv_encode(
-        depth: u32, rate: u32, g: Read, g_len: Len, t: Read, t_len: Len, t2: Read, t2_len: Len,
+        field: bool, depth: u32, rate: u32, g: Read, g_len: Len, t: Read, t_len: Len, t2: Read, t2_len: Len,
         message: Read, message_len: Len, block: Write, block_len: Len,
     ) -> tv_answer;
     /// The message of a codeword.
     pub fn tv_decode(
-        depth: u32, rate: u32, g: Read, g_len: Len, t: Read, t_len: Len, t2: Read, t2_len: Len,
+        field: bool, depth: u32, rate: u32, g: Read, g_len: Len, t: Read, t_len: Len, t2: Read, t2_len: Len,
         block: Read, block_len: Len, message: Write, message_len: Len, work: Write, work_len: Len,
     ) -> tv_answer;
     /// The fold of a block by one level.
     pub fn tv_fold(
-        level: u32, rate: u32, t: Read, t_len: Len, t2: Read, t2_len: Len,
+        field: bool, level: u32, rate: u32, t: Read, t_len: Len, t2: Read, t2_len: Len,
         block: Read, block_len: Len, challenge: u32, folded: Write, folded_len: Len,
     ) -> tv_answer;
     /// An opening of a message.
     pub fn tv_write_opening(
-        depth: u32, rate: u32, g: Read, g_len: Len, t: Read, t_len: Len, t2: Read, t2_len: Len,
+        field: bool, depth: u32, rate: u32, g: Read, g_len: Len, t: Read, t_len: Len, t2: Read, t2_len: Len,
         message: Read, message_len: Len, z: Read, z_len: Len, r: Read, r_len: Len,
         opening: Write, opening_len: Len, work: Write, work_len: Len, value: *mut u32,
     ) -> tv_answer;
     /// The verdict on an opening.
     pub fn tv_verify_opening(
-        depth: u32, rate: u32, g: Read, g_len: Len, t: Read, t_len: Len, t2: Read, t2_len: Len,
+        field: bool, depth: u32, rate: u32, g: Read, g_len: Len, t: Read, t_len: Len, t2: Read, t2_len: Len,
         block: Read, block_len: Len, z: Read, z_len: Len, y: u32, r: Read, r_len: Len,
         queries: Read, queries_len: Len, opening: Read, opening_len: Len,
+    ) -> tv_answer;
+    /// Base row and diagonals for the second field, powers of roots of unity.
+    pub fn tv_fill_roots(
+        depth: u32, rate: u32, g: Write, g_len: Len, t: Write, t_len: Len, t2: Write, t2_len: Len,
     ) -> tv_answer;
 }

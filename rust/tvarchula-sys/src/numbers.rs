@@ -1,7 +1,17 @@
 //! The constants of the header, by the same names.
 
-/// The modulus.
-pub const TV_MODULUS: u32 = 2_147_483_647;
+/// The first field of a call: the integers modulo [`TV_MODULUS_1`].
+pub const TV_FIELD_1: bool = false;
+/// The second field of a call: the integers modulo [`TV_MODULUS_2`]. A `bool` can name no third.
+pub const TV_FIELD_2: bool = true;
+/// The modulus of the first field, 2^31 - 1.
+pub const TV_MODULUS_1: u32 = 2_147_483_647;
+/// The modulus of the second field, 15 * 2^27 + 1.
+pub const TV_MODULUS_2: u32 = 2_013_265_921;
+/// The largest clearance over the first field; the smallest is its negative.
+pub const TV_MAX_CLEARANCE_1: i32 = 1_073_741_823;
+/// The largest clearance over the second field; the smallest is its negative.
+pub const TV_MAX_CLEARANCE_2: i32 = 1_006_632_960;
 /// The largest depth.
 pub const TV_MAX_DEPTH: u32 = 20;
 /// The smallest rate.
@@ -12,8 +22,6 @@ pub const TV_MAX_RATE: u32 = 16;
 pub const TV_MAX_QUERIES: u32 = 256;
 /// The longest table.
 pub const TV_MAX_TABLE_LEN: u32 = 1_048_576;
-/// The largest clearance; the smallest is its negative.
-pub const TV_MAX_CLEARANCE: i32 = 1_073_741_823;
 
 /// A reading's kind: free, above zero. Only this kind may be passed.
 pub const TV_FREE: u32 = 1;
@@ -49,7 +57,7 @@ pub const TV_REFUSED_DEPTH: u32 = 1;
 pub const TV_REFUSED_RATE: u32 = 2;
 /// The length of a slice, but for the query list.
 pub const TV_REFUSED_LENGTH: u32 = 3;
-/// A word of the modulus or more, but for the query list. The answer names its place.
+/// A word of the field's modulus or more, but for the query list. The answer names its place.
 pub const TV_REFUSED_WORD: u32 = 4;
 /// A zero in the base row. The answer names its place.
 pub const TV_REFUSED_ROW: u32 = 5;
@@ -63,6 +71,8 @@ pub const TV_REFUSED_NO_CODEWORD: u32 = 8;
 pub const TV_REFUSED_CLEARANCE: u32 = 9;
 /// A place that stands in the query list more than once.
 pub const TV_REFUSED_REPEATED: u32 = 11;
+/// A rate that is no power of two. Only filling answers this.
+pub const TV_REFUSED_NO_POWER_OF_TWO: u32 = 12;
 /// A sum check fails.
 pub const TV_FAILED_SUM: u32 = 20;
 /// The final check fails.

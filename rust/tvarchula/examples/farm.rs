@@ -15,6 +15,7 @@ use std::time::{Duration, Instant};
 use toy::{corner, Row, Toy};
 use tvarchula::*;
 
+const FIELD: Field = Field::Mersenne31;
 const RATE: u32 = 8;
 
 /// What is done.
@@ -51,7 +52,7 @@ fn main() -> Result<(), Box<dyn Error>> {
     if !(1..=MAX_DEPTH).contains(&plan.depth) || plan.entries == 0 || plan.patterns == 0 {
         return Err(format!("usage: farm [depth, 1 to {MAX_DEPTH}] [entries] [patterns]").into());
     }
-    let row = Toy(2024).row(plan.depth, RATE);
+    let row = Toy(2024).row(FIELD, plan.depth, RATE);
     let threads = thread::available_parallelism()?.get() as u32;
     let (layouts, patterns) = (message_len(plan.depth), threads * plan.patterns);
     println!("{patterns} tables of {layouts} layouts at rate {RATE}, on {threads} threads");
@@ -93,7 +94,7 @@ fn work_through(row: &Row, plan: Plan, seed: u64) -> Result<Taken, VerifyError> 
     for _ in 0..plan.patterns {
         let clearances = clearances(&mut toy, depth);
         let start = Instant::now();
-        table_to_coefficients(&clearances, &mut message)?;
+        table_to_coefficients(FIELD, &clearances, &mut message)?;
         encode(&code, &message, &mut commitment)?;
         taken.commit += start.elapsed();
 
@@ -101,7 +102,7 @@ fn work_through(row: &Row, plan: Plan, seed: u64) -> Result<Taken, VerifyError> 
             // The cell's draws. A TOY: in service nobody may foresee r and queries, see `toy`.
             let entry = toy.below(1 << depth);
             let z = corner(entry, depth);
-            let r = toy.list(depth as usize, MODULUS);
+            let r = toy.list(depth as usize, FIELD.modulus());
             let queries = toy.places(plan.queries(), block_len(depth - 1, RATE) as u32);
 
             let start = Instant::now();
@@ -120,7 +121,11 @@ fn work_through(row: &Row, plan: Plan, seed: u64) -> Result<Taken, VerifyError> 
             taken.verify += start.elapsed();
 
             let due = i64::from(clearances[entry as usize]);
-            assert_eq!(read_clearance(y)?.micrometres(), due, "entry {entry}");
+            assert_eq!(
+                read_clearance(FIELD, y)?.micrometres(),
+                due,
+                "entry {entry}"
+            );
         }
     }
     Ok(taken)

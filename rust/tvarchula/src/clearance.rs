@@ -6,6 +6,7 @@ use core::fmt;
 
 use tvarchula_sys::{tv_reading, TV_CONTACT, TV_FREE, TV_OVERLAP};
 
+use crate::field::Field;
 use crate::input::Input;
 use crate::raw;
 use crate::refusal::{done, Refusal};
@@ -74,21 +75,26 @@ impl fmt::Display for Reading {
 /// [`Refusal::Word`] for a word that is no residue.
 ///
 /// ```
-/// use tvarchula::{read_clearance, Input, Reading, Refusal, MODULUS};
-/// assert_eq!(read_clearance(1250), Ok(Reading::Free(1250)));
-/// assert_eq!(read_clearance(0), Ok(Reading::Contact));
-/// assert_eq!(read_clearance(MODULUS - 1), Ok(Reading::Overlap(1)));
-/// let refused = Refusal::Word { input: Input::Block, index: 0, word: MODULUS };
-/// assert_eq!(read_clearance(MODULUS), Err(refused));
+/// use tvarchula::{read_clearance, Field, Input, Reading, Refusal};
+/// let field = Field::BabyBear;
+/// assert_eq!(read_clearance(field, 1250), Ok(Reading::Free(1250)));
+/// assert_eq!(read_clearance(field, 0), Ok(Reading::Contact));
+/// assert_eq!(read_clearance(field, 2013265920), Ok(Reading::Overlap(1)));
+/// let (input, index, word) = (Input::Block, 0, 2013265921);
+/// let refused = Refusal::Word { field, input, index, word };
+/// assert_eq!(read_clearance(field, word), Err(refused));
+/// // The other field has this word: it is 2147483647 - 134217726.
+/// let reading = read_clearance(Field::Mersenne31, word);
+/// assert_eq!(reading, Ok(Reading::Overlap(134217726)));
 /// ```
-pub fn read_clearance(word: u32) -> Result<Reading, Refusal> {
-    reading_of(raw::read_clearance(word), word)
+pub fn read_clearance(field: Field, word: u32) -> Result<Reading, Refusal> {
+    reading_of(field, raw::read_clearance(field, word), word)
 }
 
 /// A kind that is not known here is no reading, and neither is an amount that its kind cannot have:
 /// "free by 0" is what an archive from before 0.2 says of contact.
-fn reading_of(raw: tv_reading, word: u32) -> Result<Reading, Refusal> {
-    done(raw.answer, &[(Input::Block, &[word])])?;
+fn reading_of(field: Field, raw: tv_reading, word: u32) -> Result<Reading, Refusal> {
+    done(field, raw.answer, &[(Input::Block, &[word])])?;
     match (raw.kind, raw.amount) {
         (TV_FREE, 1..) => Ok(Reading::Free(raw.amount)),
         (TV_CONTACT, 0) => Ok(Reading::Contact),
@@ -107,14 +113,19 @@ fn reading_of(raw: tv_reading, word: u32) -> Result<Reading, Refusal> {
 /// [`Refusal::Depth`], [`Refusal::Length`], [`Refusal::Clearance`].
 ///
 /// ```
-/// use tvarchula::table_to_coefficients;
+/// use tvarchula::{table_to_coefficients, Field};
 /// let mut message = [0; 4];
-/// table_to_coefficients(&[3, 5, 4, 10], &mut message)?;
+/// table_to_coefficients(Field::Mersenne31, &[3, 5, 4, 10], &mut message)?;
 /// assert_eq!(message, [3, 2, 1, 4]);
 /// # Ok::<(), tvarchula::Refusal>(())
 /// ```
-pub fn table_to_coefficients(clearances: &[i32], message: &mut [u32]) -> Result<(), Refusal> {
-    done(raw::table_to_coefficients(clearances, message), &[])
+pub fn table_to_coefficients(
+    field: Field,
+    clearances: &[i32],
+    message: &mut [u32],
+) -> Result<(), Refusal> {
+    let answer = raw::table_to_coefficients(field, clearances, message);
+    done(field, answer, &[])
 }
 
 /// [`table_to_coefficients`] into a new vector.
@@ -123,9 +134,9 @@ pub fn table_to_coefficients(clearances: &[i32], message: &mut [u32]) -> Result<
 ///
 /// As [`table_to_coefficients`].
 #[cfg(feature = "alloc")]
-pub fn table_to_coefficients_vec(clearances: &[i32]) -> Result<Vec<u32>, Refusal> {
+pub fn table_to_coefficients_vec(field: Field, clearances: &[i32]) -> Result<Vec<u32>, Refusal> {
     let mut message = vec![0; clearances.len()];
-    table_to_coefficients(clearances, &mut message)?;
+    table_to_coefficients(field, clearances, &mut message)?;
     Ok(message)
 }
 
@@ -136,19 +147,20 @@ pub fn table_to_coefficients_vec(clearances: &[i32]) -> Result<Vec<u32>, Refusal
 /// [`Refusal::Depth`], [`Refusal::Length`], [`Refusal::Word`].
 ///
 /// ```
-/// use tvarchula::coefficients_to_table;
+/// use tvarchula::{coefficients_to_table, Field};
 /// let (mut table, mut work) = ([0; 4], [0; 4]);
-/// coefficients_to_table(&[3, 2, 1, 4], &mut table, &mut work)?;
+/// coefficients_to_table(Field::Mersenne31, &[3, 2, 1, 4], &mut table, &mut work)?;
 /// assert_eq!(table, [3, 5, 4, 10]);
 /// # Ok::<(), tvarchula::Refusal>(())
 /// ```
 pub fn coefficients_to_table(
+    field: Field,
     message: &[u32],
     clearances: &mut [i32],
     work: &mut [u32],
 ) -> Result<(), Refusal> {
-    let answer = raw::coefficients_to_table(message, clearances, work);
-    done(answer, &[(Input::Block, message)])
+    let answer = raw::coefficients_to_table(field, message, clearances, work);
+    done(field, answer, &[(Input::Block, message)])
 }
 
 /// [`coefficients_to_table`] into a new vector.
@@ -157,17 +169,16 @@ pub fn coefficients_to_table(
 ///
 /// As [`coefficients_to_table`].
 #[cfg(feature = "alloc")]
-pub fn coefficients_to_table_vec(message: &[u32]) -> Result<Vec<i32>, Refusal> {
+pub fn coefficients_to_table_vec(field: Field, message: &[u32]) -> Result<Vec<i32>, Refusal> {
     let mut clearances = vec![0; message.len()];
     let mut work = vec![0; message.len()];
-    coefficients_to_table(message, &mut clearances, &mut work)?;
+    coefficients_to_table(field, message, &mut clearances, &mut work)?;
     Ok(clearances)
 }
 
 #[cfg(test)]
 mod tests {
     use super::*;
-    use crate::sizes::MODULUS;
     use std::string::ToString;
     use tvarchula_sys::tv_answer;
 
@@ -186,20 +197,30 @@ mod tests {
 
     #[test]
     fn a_refused_word_is_named() {
-        let refused = |places, word| reading_of(raw(4, places, 0, 0), word);
-        let (input, index, word) = (Input::Block, 0, MODULUS + 9);
-        let named = Refusal::Word { input, index, word };
-        assert_eq!(refused([0, 4], word), Err(named));
-        let unknown = Refusal::Unknown { number: 4, kind: 0 };
-        for places in [[0, 0], [1, 4], [0, 7], [4, 0]] {
-            assert_eq!(refused(places, word), Err(unknown));
+        for (field, p) in [
+            (Field::Mersenne31, 2_147_483_647),
+            (Field::BabyBear, 2_013_265_921),
+        ] {
+            let refused = |places, word| reading_of(field, raw(4, places, 0, 0), word);
+            let (input, index, word) = (Input::Block, 0, p + 9);
+            let named = Refusal::Word {
+                field,
+                input,
+                index,
+                word,
+            };
+            assert_eq!(refused([0, 4], word), Err(named));
+            let unknown = Refusal::Unknown { number: 4, kind: 0 };
+            for places in [[0, 0], [1, 4], [0, 7], [4, 0]] {
+                assert_eq!(refused(places, word), Err(unknown));
+            }
+            assert_eq!(refused([0, 4], p - 1), Err(unknown));
         }
-        assert_eq!(refused([0, 4], MODULUS - 1), Err(unknown));
     }
 
     #[test]
     fn what_no_kind_can_say_is_no_reading() {
-        let read = |kind, amount| reading_of(raw(0, [0, 0], kind, amount), 1);
+        let read = |kind, amount| reading_of(Field::BabyBear, raw(0, [0, 0], kind, amount), 1);
         assert_eq!(read(1, 1), Ok(Reading::Free(1)));
         assert_eq!(read(2, 1), Ok(Reading::Overlap(1)));
         assert_eq!(read(3, 0), Ok(Reading::Contact));

@@ -3,6 +3,7 @@
 #[cfg(feature = "alloc")]
 use alloc::{vec, vec::Vec};
 
+use crate::field::Field;
 use crate::input::Input;
 use crate::raw;
 use crate::refusal::{done, Refusal};
@@ -14,6 +15,8 @@ use crate::sizes::{block_len, message_len};
 #[derive(Clone, Copy, PartialEq, Eq, Debug)]
 #[non_exhaustive]
 pub struct Code<'a> {
+    /// The field of all its words, and of the messages, blocks and openings that it is used with.
+    pub field: Field,
     /// The number of variables, 0 to [`MAX_DEPTH`](crate::MAX_DEPTH). A message has 2^depth words.
     pub depth: u32,
     /// The words of a block for each word of a message, [`MIN_RATE`](crate::MIN_RATE) to
@@ -31,13 +34,22 @@ impl<'a> Code<'a> {
     /// A code. Nothing is judged here: the jobs do that.
     ///
     /// ```
-    /// use tvarchula::Code;
-    /// let code = Code::new(1, 2, &[1, 1], &[2, 3], &[2147483645, 2147483644]);
+    /// use tvarchula::{Code, Field};
+    /// let (t, t2) = ([2, 3], [2147483645, 2147483644]);
+    /// let code = Code::new(Field::Mersenne31, 1, 2, &[1, 1], &t, &t2);
     /// assert_eq!((code.depth, code.rate), (1, 2));
     /// ```
     #[must_use]
-    pub const fn new(depth: u32, rate: u32, g: &'a [u32], t: &'a [u32], t2: &'a [u32]) -> Code<'a> {
+    pub const fn new(
+        field: Field,
+        depth: u32,
+        rate: u32,
+        g: &'a [u32],
+        t: &'a [u32],
+        t2: &'a [u32],
+    ) -> Code<'a> {
         Code {
+            field,
             depth,
             rate,
             g,
@@ -60,13 +72,15 @@ impl<'a> Code<'a> {
 /// [`Refusal::Depth`], [`Refusal::Length`], [`Refusal::Word`].
 ///
 /// ```
-/// use tvarchula::evaluate;
-/// assert_eq!(evaluate(1, &[5, 7], &[3]), Ok(26)); // 5 + 7 * 3
+/// use tvarchula::{evaluate, Field};
+/// assert_eq!(evaluate(Field::Mersenne31, 1, &[5, 7], &[3]), Ok(26)); // 5 + 7 * 3
+/// // 7 * 287609418 is 2013265926, and that is 5 in the second field.
+/// assert_eq!(evaluate(Field::BabyBear, 1, &[5, 7], &[287609418]), Ok(10));
 /// ```
-pub fn evaluate(depth: u32, message: &[u32], z: &[u32]) -> Result<u32, Refusal> {
+pub fn evaluate(field: Field, depth: u32, message: &[u32], z: &[u32]) -> Result<u32, Refusal> {
     let mut value = 0;
-    let answer = raw::evaluate(depth, message, z, &mut value);
-    done(answer, &[(Input::Block, message), (Input::Z, z)])?;
+    let answer = raw::evaluate(field, depth, message, z, &mut value);
+    done(field, answer, &[(Input::Block, message), (Input::Z, z)])?;
     Ok(value)
 }
 
@@ -79,8 +93,9 @@ pub fn evaluate(depth: u32, message: &[u32], z: &[u32]) -> Result<u32, Refusal> 
 /// [`Refusal::BaseRow`], [`Refusal::Diagonals`].
 ///
 /// ```
-/// use tvarchula::{encode, Code};
-/// let code = Code::new(1, 2, &[1, 1], &[2, 3], &[2147483645, 2147483644]);
+/// use tvarchula::{encode, Code, Field};
+/// let (t, t2) = ([2, 3], [2147483645, 2147483644]);
+/// let code = Code::new(Field::Mersenne31, 1, 2, &[1, 1], &t, &t2);
 /// let mut block = [0; 4];
 /// encode(&code, &[5, 7], &mut block)?;
 /// assert_eq!(block, [19, 26, 2147483638, 2147483631]);
@@ -89,7 +104,7 @@ pub fn evaluate(depth: u32, message: &[u32], z: &[u32]) -> Result<u32, Refusal> 
 pub fn encode(code: &Code<'_>, message: &[u32], block: &mut [u32]) -> Result<(), Refusal> {
     let [g, t, t2] = code.lent();
     let answer = raw::encode(code, message, block);
-    done(answer, &[g, t, t2, (Input::Block, message)])
+    done(code.field, answer, &[g, t, t2, (Input::Block, message)])
 }
 
 /// [`encode`] into a new vector.
@@ -111,8 +126,9 @@ pub fn encode_vec(code: &Code<'_>, message: &[u32]) -> Result<Vec<u32>, Refusal>
 /// Those of [`encode`], and [`Refusal::NoCodeword`] for every other block.
 ///
 /// ```
-/// use tvarchula::{decode, Code, Refusal};
-/// let code = Code::new(1, 2, &[1, 1], &[2, 3], &[2147483645, 2147483644]);
+/// use tvarchula::{decode, Code, Field, Refusal};
+/// let (t, t2) = ([2, 3], [2147483645, 2147483644]);
+/// let code = Code::new(Field::Mersenne31, 1, 2, &[1, 1], &t, &t2);
 /// let (mut message, mut work) = ([0; 2], [0; 4]);
 /// decode(&code, &[19, 26, 2147483638, 2147483631], &mut message, &mut work)?;
 /// assert_eq!(message, [5, 7]);
@@ -130,7 +146,7 @@ pub fn decode(
 ) -> Result<(), Refusal> {
     let [g, t, t2] = code.lent();
     let answer = raw::decode(code, block, message, work);
-    done(answer, &[g, t, t2, (Input::Block, block)])
+    done(code.field, answer, &[g, t, t2, (Input::Block, block)])
 }
 
 /// [`decode`] into a new vector.
@@ -157,14 +173,17 @@ pub fn decode_vec(code: &Code<'_>, block: &[u32]) -> Result<Vec<u32>, Refusal> {
 /// [`Refusal::Diagonals`].
 ///
 /// ```
-/// use tvarchula::fold;
+/// use tvarchula::{fold, Field};
 /// let (t, t2) = ([2, 3], [2147483645, 2147483644]);
+/// let block = [19, 26, 2147483638, 2147483631];
 /// let mut folded = [0; 2];
-/// fold(1, 2, &t, &t2, &[19, 26, 2147483638, 2147483631], 4, &mut folded)?;
+/// fold(Field::Mersenne31, 1, 2, &t, &t2, &block, 4, &mut folded)?;
 /// assert_eq!(folded, [33, 33]);
 /// # Ok::<(), tvarchula::Refusal>(())
 /// ```
+#[allow(clippy::too_many_arguments)] // a fold is of one level, and no Code has it alone
 pub fn fold(
+    field: Field,
     level: u32,
     rate: u32,
     t: &[u32],
@@ -179,8 +198,8 @@ pub fn fold(
         (Input::Block, block),
         (Input::R, &[challenge]),
     ];
-    let answer = raw::fold(level, rate, t, t2, block, challenge, folded);
-    done(answer, &lent)
+    let answer = raw::fold(field, level, rate, t, t2, block, challenge, folded);
+    done(field, answer, &lent)
 }
 
 /// [`fold`] into a new vector.
@@ -190,6 +209,7 @@ pub fn fold(
 /// As [`fold`].
 #[cfg(feature = "alloc")]
 pub fn fold_vec(
+    field: Field,
     level: u32,
     rate: u32,
     t: &[u32],
@@ -198,6 +218,6 @@ pub fn fold_vec(
     challenge: u32,
 ) -> Result<Vec<u32>, Refusal> {
     let mut folded = vec![0; block_len(level.saturating_sub(1), rate)];
-    fold(level, rate, t, t2, block, challenge, &mut folded)?;
+    fold(field, level, rate, t, t2, block, challenge, &mut folded)?;
     Ok(folded)
 }

@@ -4,9 +4,10 @@ use core::fmt;
 
 use tvarchula_sys as sys;
 
-/// What a call lends, in the order in which its words are judged: of all words that are
-/// [`MODULUS`](crate::MODULUS) or more, [`Refusal::Word`](crate::Refusal::Word) names the first one of
-/// the first input that has one. The query list is judged apart.
+/// What a call lends, in the order in which its words are judged: of all words that are the
+/// [`modulus`](crate::Field::modulus) of the call's field or more,
+/// [`Refusal::Word`](crate::Refusal::Word) names the first one of the first input that has one. The
+/// query list is judged apart.
 ///
 /// ```
 /// use tvarchula::Input;

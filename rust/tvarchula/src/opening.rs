@@ -49,8 +49,9 @@ pub struct Claim<'a> {
 /// [`Refusal::BaseRow`], [`Refusal::Diagonals`].
 ///
 /// ```
-/// use tvarchula::{write_opening, Code, Question};
-/// let code = Code::new(1, 2, &[1, 1], &[2, 3], &[2147483645, 2147483644]);
+/// use tvarchula::{write_opening, Code, Field, Question};
+/// let (t, t2) = ([2, 3], [2147483645, 2147483644]);
+/// let code = Code::new(Field::Mersenne31, 1, 2, &[1, 1], &t, &t2);
 /// let question = Question { z: &[3], r: &[4] };
 /// let (mut opening, mut work) = ([0; 6], [0; 4]);
 /// let value = write_opening(&code, &[5, 7], &question, &mut opening, &mut work)?;
@@ -69,7 +70,8 @@ pub fn write_opening(
     let [g, t, t2] = code.lent();
     let (z, r) = ((Input::Z, question.z), (Input::R, question.r));
     let answer = raw::write_opening(code, message, question, opening, work, &mut value);
-    done(answer, &[g, t, t2, (Input::Block, message), z, r])?;
+    let lent = [g, t, t2, (Input::Block, message), z, r];
+    done(code.field, answer, &lent)?;
     Ok(value)
 }
 
@@ -102,8 +104,9 @@ pub fn write_opening_vec(
 /// [`Refusal::Repeated`].
 ///
 /// ```
-/// use tvarchula::{verify_opening, Claim, Code, Failure, Refusal, VerifyError};
-/// let code = Code::new(1, 2, &[1, 1], &[2, 3], &[2147483645, 2147483644]);
+/// use tvarchula::{verify_opening, Claim, Code, Failure, Field, Refusal, VerifyError};
+/// let (t, t2) = ([2, 3], [2147483645, 2147483644]);
+/// let code = Code::new(Field::Mersenne31, 1, 2, &[1, 1], &t, &t2);
 /// let block = [19, 26, 2147483638, 2147483631];
 /// let opening = [2147483637, 36, 152, 33, 33, 33];
 /// let claim = Claim { z: &[3], y: 26, r: &[4], queries: &[0, 1] };
@@ -155,8 +158,9 @@ pub fn verify_opening(
 /// The refusals of [`verify_opening`].
 ///
 /// ```
-/// use tvarchula::{verdict, Claim, Code, Failure, Verdict};
-/// let code = Code::new(1, 2, &[1, 1], &[2, 3], &[2147483645, 2147483644]);
+/// use tvarchula::{verdict, Claim, Code, Failure, Field, Verdict};
+/// let (t, t2) = ([2, 3], [2147483645, 2147483644]);
+/// let code = Code::new(Field::Mersenne31, 1, 2, &[1, 1], &t, &t2);
 /// let block = [19, 26, 2147483638, 2147483631];
 /// let opening = [2147483637, 36, 152, 33, 33, 33];
 /// let claim = Claim { z: &[3], y: 27, r: &[4], queries: &[0, 1] };
@@ -192,5 +196,6 @@ pub fn verdict(
         (Input::R, claim.r),
         (Input::Opening, opening),
     ];
-    verdict_of(raw::verify_opening(code, block, claim, opening), &lent)
+    let answer = raw::verify_opening(code, block, claim, opening);
+    verdict_of(code.field, answer, &lent)
 }

@@ -15,47 +15,56 @@
 use tvarchula_sys::*;
 
 use crate::code::Code;
+use crate::field::Field;
 use crate::opening::{Claim, Question};
 
-pub fn read_clearance(word: u32) -> tv_reading {
+pub fn read_clearance(field: Field, word: u32) -> tv_reading {
     // SAFETY: no memory is lent.
-    unsafe { tv_read_clearance(word) }
+    unsafe { tv_read_clearance(field.lent(), word) }
 }
 
 #[rustfmt::skip]
-pub fn table_to_coefficients(clearances: &[i32], message: &mut [u32]) -> tv_answer {
+pub fn table_to_coefficients(field: Field, clearances: &[i32], message: &mut [u32]) -> tv_answer {
     // SAFETY: see above; `message` is borrowed alone.
     unsafe {
         tv_table_to_coefficients(
-            clearances.as_ptr(), clearances.len(), message.as_mut_ptr(), message.len(),
+            field.lent(), clearances.as_ptr(), clearances.len(), message.as_mut_ptr(), message.len(),
         )
     }
 }
 
 #[rustfmt::skip]
-pub fn coefficients_to_table(message: &[u32], clearances: &mut [i32], work: &mut [u32]) -> tv_answer {
+pub fn coefficients_to_table(
+    field: Field, message: &[u32], clearances: &mut [i32], work: &mut [u32],
+) -> tv_answer {
     // SAFETY: see above; `clearances` and `work` are borrowed alone.
     unsafe {
         tv_coefficients_to_table(
-            message.as_ptr(), message.len(), clearances.as_mut_ptr(), clearances.len(),
+            field.lent(), message.as_ptr(), message.len(), clearances.as_mut_ptr(), clearances.len(),
             work.as_mut_ptr(), work.len(),
         )
     }
 }
 
 #[rustfmt::skip]
-pub fn evaluate(depth: u32, message: &[u32], z: &[u32], value: &mut u32) -> tv_answer {
+pub fn evaluate(
+    field: Field, depth: u32, message: &[u32], z: &[u32], value: &mut u32,
+) -> tv_answer {
     // SAFETY: see above; `value` is one word borrowed alone.
-    unsafe { tv_evaluate(depth, message.as_ptr(), message.len(), z.as_ptr(), z.len(), value) }
+    unsafe {
+        tv_evaluate(
+            field.lent(), depth, message.as_ptr(), message.len(), z.as_ptr(), z.len(), value,
+        )
+    }
 }
 
 #[rustfmt::skip]
 pub fn encode(code: &Code<'_>, message: &[u32], block: &mut [u32]) -> tv_answer {
-    let Code { depth, rate, g, t, t2 } = *code;
+    let Code { field, depth, rate, g, t, t2 } = *code;
     // SAFETY: see above; `block` is borrowed alone.
     unsafe {
         tv_encode(
-            depth, rate, g.as_ptr(), g.len(), t.as_ptr(), t.len(), t2.as_ptr(), t2.len(),
+            field.lent(), depth, rate, g.as_ptr(), g.len(), t.as_ptr(), t.len(), t2.as_ptr(), t2.len(),
             message.as_ptr(), message.len(), block.as_mut_ptr(), block.len(),
         )
     }
@@ -63,11 +72,11 @@ pub fn encode(code: &Code<'_>, message: &[u32], block: &mut [u32]) -> tv_answer 
 
 #[rustfmt::skip]
 pub fn decode(code: &Code<'_>, block: &[u32], message: &mut [u32], work: &mut [u32]) -> tv_answer {
-    let Code { depth, rate, g, t, t2 } = *code;
+    let Code { field, depth, rate, g, t, t2 } = *code;
     // SAFETY: see above; `message` and `work` are borrowed alone.
     unsafe {
         tv_decode(
-            depth, rate, g.as_ptr(), g.len(), t.as_ptr(), t.len(), t2.as_ptr(), t2.len(),
+            field.lent(), depth, rate, g.as_ptr(), g.len(), t.as_ptr(), t.len(), t2.as_ptr(), t2.len(),
             block.as_ptr(), block.len(), message.as_mut_ptr(), message.len(),
             work.as_mut_ptr(), work.len(),
         )
@@ -75,13 +84,15 @@ pub fn decode(code: &Code<'_>, block: &[u32], message: &mut [u32], work: &mut [u
 }
 
 #[rustfmt::skip]
+#[allow(clippy::too_many_arguments)]
 pub fn fold(
-    level: u32, rate: u32, t: &[u32], t2: &[u32], block: &[u32], challenge: u32, folded: &mut [u32],
+    field: Field, level: u32, rate: u32, t: &[u32], t2: &[u32], block: &[u32], challenge: u32,
+    folded: &mut [u32],
 ) -> tv_answer {
     // SAFETY: see above; `folded` is borrowed alone.
     unsafe {
         tv_fold(
-            level, rate, t.as_ptr(), t.len(), t2.as_ptr(), t2.len(),
+            field.lent(), level, rate, t.as_ptr(), t.len(), t2.as_ptr(), t2.len(),
             block.as_ptr(), block.len(), challenge, folded.as_mut_ptr(), folded.len(),
         )
     }
@@ -92,12 +103,12 @@ pub fn write_opening(
     code: &Code<'_>, message: &[u32], question: &Question<'_>,
     opening: &mut [u32], work: &mut [u32], value: &mut u32,
 ) -> tv_answer {
-    let Code { depth, rate, g, t, t2 } = *code;
+    let Code { field, depth, rate, g, t, t2 } = *code;
     let Question { z, r } = *question;
     // SAFETY: see above; `opening`, `work` and the word `value` are borrowed alone.
     unsafe {
         tv_write_opening(
-            depth, rate, g.as_ptr(), g.len(), t.as_ptr(), t.len(), t2.as_ptr(), t2.len(),
+            field.lent(), depth, rate, g.as_ptr(), g.len(), t.as_ptr(), t.len(), t2.as_ptr(), t2.len(),
             message.as_ptr(), message.len(), z.as_ptr(), z.len(), r.as_ptr(), r.len(),
             opening.as_mut_ptr(), opening.len(), work.as_mut_ptr(), work.len(), value,
         )
@@ -108,14 +119,26 @@ pub fn write_opening(
 pub fn verify_opening(
     code: &Code<'_>, block: &[u32], claim: &Claim<'_>, opening: &[u32],
 ) -> tv_answer {
-    let Code { depth, rate, g, t, t2 } = *code;
+    let Code { field, depth, rate, g, t, t2 } = *code;
     let Claim { z, y, r, queries } = *claim;
     // SAFETY: see above; nothing is written.
     unsafe {
         tv_verify_opening(
-            depth, rate, g.as_ptr(), g.len(), t.as_ptr(), t.len(), t2.as_ptr(), t2.len(),
+            field.lent(), depth, rate, g.as_ptr(), g.len(), t.as_ptr(), t.len(), t2.as_ptr(), t2.len(),
             block.as_ptr(), block.len(), z.as_ptr(), z.len(), y, r.as_ptr(), r.len(),
             queries.as_ptr(), queries.len(), opening.as_ptr(), opening.len(),
+        )
+    }
+}
+
+#[rustfmt::skip]
+pub fn fill_roots(
+    depth: u32, rate: u32, g: &mut [u32], t: &mut [u32], t2: &mut [u32],
+) -> tv_answer {
+    // SAFETY: see above; `g`, `t` and `t2` are borrowed alone.
+    unsafe {
+        tv_fill_roots(
+            depth, rate, g.as_mut_ptr(), g.len(), t.as_mut_ptr(), t.len(), t2.as_mut_ptr(), t2.len(),
         )
     }
 }

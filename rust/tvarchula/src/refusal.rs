@@ -5,22 +5,24 @@ use core::fmt;
 
 use tvarchula_sys::{self as sys, tv_answer};
 
+use crate::field::Field;
 use crate::input::Input;
-use crate::sizes::{MAX_CLEARANCE, MAX_DEPTH, MAX_RATE, MAX_TABLE_LEN, MIN_RATE, MODULUS};
+use crate::sizes::{MAX_DEPTH, MAX_RATE, MAX_TABLE_LEN, MIN_RATE};
 
 /// Why a job refuses what it is lent. When several reasons apply, the one with the smallest number
 /// is given; where that is 4, 5 or 6, it names the first place that offends. Every index counts from
 /// 0, over the whole slice as it was lent.
 ///
 /// ```
-/// use tvarchula::{evaluate, table_to_coefficients, Input, Refusal, MODULUS};
-/// let refused = table_to_coefficients(&[1, 2, 3], &mut [0; 3]).unwrap_err();
+/// use tvarchula::{evaluate, table_to_coefficients, Field, Input, Refusal};
+/// let field = Field::Mersenne31;
+/// let refused = table_to_coefficients(field, &[1, 2, 3], &mut [0; 3]).unwrap_err();
 /// assert_eq!(refused, Refusal::Depth);
 /// assert_eq!(refused.number(), 1);
 ///
-/// let refused = evaluate(2, &[5, 7, 11, 13], &[3, MODULUS + 1]).unwrap_err();
-/// let (input, index, word) = (Input::Z, 1, MODULUS + 1);
-/// assert_eq!(refused, Refusal::Word { input, index, word });
+/// let (input, index, word) = (Input::Z, 1, 2147483648);
+/// let refused = evaluate(field, 2, &[5, 7, 11, 13], &[3, word]).unwrap_err();
+/// assert_eq!(refused, Refusal::Word { field, input, index, word });
 /// assert_eq!(refused.to_string(), "word 1 of z is 2147483648, not below 2147483647");
 /// ```
 #[derive(Clone, Copy, PartialEq, Eq, Hash, Debug)]
@@ -35,9 +37,11 @@ pub enum Refusal {
     /// 3: a slice, result and work included, that has not its exact length. The length of the query
     /// list is judged by 7.
     Length,
-    /// 4: a word or single value that is read is [`MODULUS`] or more. The words of the query list are
-    /// judged by 7.
+    /// 4: a word or single value that is read is the [`modulus`](Field::modulus) of the call's field or
+    /// more. The words of the query list are judged by 7.
     Word {
+        /// The field of the call.
+        field: Field,
         /// The first input that has such a word.
         input: Input,
         /// The first such word's index in it; 0 for a single value.
@@ -59,11 +63,17 @@ pub enum Refusal {
     Queries,
     /// 8: a well-formed block that is no codeword. Only decoding answers this.
     NoCodeword,
-    /// 9: a clearance outside -[`MAX_CLEARANCE`] to [`MAX_CLEARANCE`].
-    Clearance,
+    /// 9: a clearance that is further from 0 than the [`max_clearance`](Field::max_clearance) of the
+    /// call's field.
+    Clearance {
+        /// The field of the call.
+        field: Field,
+    },
     /// 11: a place that stands in the query list more than once. Only verifying answers this, before
     /// any check of the opening.
     Repeated,
+    /// 12: a rate that is no power of two. Only [`fill_roots`](crate::fill_roots) answers this.
+    NoPowerOfTwo,
     /// The archive answered what this crate does not know, or a place that does not fit the call: it
     /// is of another version. Nothing that such a call wrote or said may be used.
     Unknown {
@@ -75,7 +85,8 @@ pub enum Refusal {
 }
 
 impl Refusal {
-    /// The number that C sees, 1 to 9 or 11. [`Refusal::Unknown`] has the number that was answered.
+    /// The number that C sees, 1 to 9, 11 or 12. [`Refusal::Unknown`] has the number that was
+    /// answered.
     #[must_use]
     pub const fn number(self) -> u32 {
         match self {
@@ -87,22 +98,28 @@ impl Refusal {
             Refusal::Diagonals { .. } => sys::TV_REFUSED_DIAGONALS,
             Refusal::Queries => sys::TV_REFUSED_QUERIES,
             Refusal::NoCodeword => sys::TV_REFUSED_NO_CODEWORD,
-            Refusal::Clearance => sys::TV_REFUSED_CLEARANCE,
+            Refusal::Clearance { .. } => sys::TV_REFUSED_CLEARANCE,
             Refusal::Repeated => sys::TV_REFUSED_REPEATED,
+            Refusal::NoPowerOfTwo => sys::TV_REFUSED_NO_POWER_OF_TWO,
             Refusal::Unknown { number, .. } => number,
         }
     }
 
     /// The refusal that an answer tells of a call, if it is one that this crate knows and its place is
     /// there: what is said of the word must be true of the caller's own.
-    fn of(answer: tv_answer, lent: Lent<'_>) -> Option<Refusal> {
+    fn of(field: Field, answer: tv_answer, lent: Lent<'_>) -> Option<Refusal> {
         let index = answer.first as usize;
         let word = |input| words(lent, input)?.get(index).copied();
         match (answer.number, answer.second) {
             (sys::TV_REFUSED_WORD, number) => {
                 let input = Input::of(number)?;
-                let word = word(input).filter(|&word| word >= MODULUS)?;
-                Some(Refusal::Word { input, index, word })
+                let word = word(input).filter(|&word| word >= field.modulus())?;
+                Some(Refusal::Word {
+                    field,
+                    input,
+                    index,
+                    word,
+                })
             }
             (sys::TV_REFUSED_ROW, 0) => {
                 let zero = word(Input::G)? == 0;
@@ -112,21 +129,22 @@ impl Refusal {
                 let equal = word(Input::T)? == word(Input::T2)?;
                 equal.then_some(Refusal::Diagonals { index })
             }
-            (number, 0) if index == 0 => Refusal::without_place(number),
+            (number, 0) if index == 0 => Refusal::without_place(field, number),
             _ => None,
         }
     }
 
     /// The refusal of a number that names no place.
-    const fn without_place(number: u32) -> Option<Refusal> {
+    const fn without_place(field: Field, number: u32) -> Option<Refusal> {
         Some(match number {
             sys::TV_REFUSED_DEPTH => Refusal::Depth,
             sys::TV_REFUSED_RATE => Refusal::Rate,
             sys::TV_REFUSED_LENGTH => Refusal::Length,
             sys::TV_REFUSED_QUERIES => Refusal::Queries,
             sys::TV_REFUSED_NO_CODEWORD => Refusal::NoCodeword,
-            sys::TV_REFUSED_CLEARANCE => Refusal::Clearance,
+            sys::TV_REFUSED_CLEARANCE => Refusal::Clearance { field },
             sys::TV_REFUSED_REPEATED => Refusal::Repeated,
+            sys::TV_REFUSED_NO_POWER_OF_TWO => Refusal::NoPowerOfTwo,
             _ => return None,
         })
     }
@@ -142,8 +160,14 @@ impl fmt::Display for Refusal {
             ),
             Refusal::Rate => write!(f, "the rate is not {MIN_RATE} to {MAX_RATE}"),
             Refusal::Length => f.write_str("a slice has not its exact length"),
-            Refusal::Word { input, index, word } => {
-                write!(f, "word {index} of {input} is {word}, not below {MODULUS}")
+            Refusal::Word {
+                field,
+                input,
+                index,
+                word,
+            } => {
+                let modulus = field.modulus();
+                write!(f, "word {index} of {input} is {word}, not below {modulus}")
             }
             Refusal::BaseRow { index } => write!(f, "word {index} of the base row is 0"),
             Refusal::Diagonals { index } => write!(f, "word {index} of T and of T' are equal"),
@@ -151,12 +175,14 @@ impl fmt::Display for Refusal {
                 "the query list is too short or too long, or one of its places is too large",
             ),
             Refusal::NoCodeword => f.write_str("the block is no codeword"),
-            Refusal::Clearance => {
-                write!(f, "a clearance is further than {MAX_CLEARANCE} micrometres from 0")
+            Refusal::Clearance { field } => {
+                let farthest = field.max_clearance();
+                write!(f, "a clearance is further than {farthest} micrometres from 0")
             }
             Refusal::Repeated => {
                 f.write_str("a place stands in the query list more than once")
             }
+            Refusal::NoPowerOfTwo => f.write_str("the rate is no power of two"),
             Refusal::Unknown { number, kind } => write!(
                 f,
                 "libtvarchula.a is of another version: it answered {number}, kind {kind}"
@@ -178,11 +204,11 @@ fn words(lent: Lent<'_>, input: Input) -> Option<&[u32]> {
 
 /// The result of a job from what it answers. Only 0 is success. A place that does not fit the call, or
 /// stands with a number that names none, is of another version.
-pub(crate) fn done(answer: tv_answer, lent: Lent<'_>) -> Result<(), Refusal> {
+pub(crate) fn done(field: Field, answer: tv_answer, lent: Lent<'_>) -> Result<(), Refusal> {
     let number = answer.number;
     match (number, answer.first, answer.second) {
         (sys::TV_DONE, 0, 0) => Ok(()),
-        _ => Err(Refusal::of(answer, lent).unwrap_or(Refusal::Unknown { number, kind: 0 })),
+        _ => Err(Refusal::of(field, answer, lent).unwrap_or(Refusal::Unknown { number, kind: 0 })),
     }
 }
 
@@ -191,7 +217,9 @@ mod tests {
     use super::*;
     use std::string::ToString;
 
-    const P: u32 = MODULUS;
+    const P: u32 = 2_147_483_647;
+    /// The other modulus.
+    const P2: u32 = 2_013_265_921;
     const LENT: Lent<'static> = &[
         (Input::G, &[1, 0, 0]),
         (Input::T, &[2, 3, P, 5]),
@@ -206,7 +234,7 @@ mod tests {
             first,
             second,
         };
-        done(answer, LENT)
+        done(Field::Mersenne31, answer, LENT)
     }
 
     fn unknown(number: u32) -> Result<(), Refusal> {
@@ -220,14 +248,21 @@ mod tests {
             let refused = answered(number, 0, 0).unwrap_err();
             assert_eq!(refused.number(), number);
         }
-        for number in [10, 12, 20, 23, 24, 40, u32::MAX] {
+        for number in [10, 13, 20, 23, 24, 40, u32::MAX] {
             assert_eq!(answered(number, 0, 0), unknown(number));
         }
     }
 
     #[test]
     fn places_with_the_callers_words() {
-        let word = |input, index, word| Err(Refusal::Word { input, index, word });
+        let word = |input, index, word| {
+            Err(Refusal::Word {
+                field: Field::Mersenne31,
+                input,
+                index,
+                word,
+            })
+        };
         assert_eq!(answered(4, 2, 2), word(Input::T, 2, P));
         assert_eq!(answered(4, 3, 3), word(Input::T2, 3, u32::MAX));
         assert_eq!(answered(4, 0, 4), word(Input::Block, 0, P + 1));
@@ -260,7 +295,7 @@ mod tests {
         for (number, first, second) in [(5, 3, 0), (6, 4, 0), (5, 1, 1), (6, 1, 2)] {
             assert_eq!(answered(number, first, second), unknown(number));
         }
-        for number in [0, 1, 2, 3, 7, 8, 9, 11] {
+        for number in [0, 1, 2, 3, 7, 8, 9, 11, 12] {
             for (first, second) in [(1, 0), (0, 1), (2, 2)] {
                 assert_eq!(answered(number, first, second), unknown(number));
             }
@@ -270,12 +305,50 @@ mod tests {
             first: 0,
             second: 0,
         };
-        assert_eq!(done(refused, &[]), unknown(5));
+        assert_eq!(done(Field::Mersenne31, refused, &[]), unknown(5));
+    }
+
+    /// What one field refuses may be a word of the other.
+    #[test]
+    fn the_field_of_the_call() {
+        let (input, index) = (Input::Z, 1);
+        let answer = tv_answer {
+            number: 4,
+            first: 1,
+            second: 5,
+        };
+        for (field, word, refused) in [
+            (Field::Mersenne31, P, true),
+            (Field::Mersenne31, P - 1, false),
+            (Field::Mersenne31, P2, false),
+            (Field::BabyBear, P, true),
+            (Field::BabyBear, P2, true),
+            (Field::BabyBear, P2 - 1, false),
+        ] {
+            let named = Refusal::Word {
+                field,
+                input,
+                index,
+                word,
+            };
+            let due = if refused { Err(named) } else { unknown(4) };
+            assert_eq!(done(field, answer, &[(input, &[3, word])]), due);
+        }
+        for field in [Field::Mersenne31, Field::BabyBear] {
+            let answer = tv_answer {
+                number: 9,
+                first: 0,
+                second: 0,
+            };
+            let refused = Err(Refusal::Clearance { field });
+            assert_eq!(done(field, answer, &[]), refused);
+        }
     }
 
     #[test]
     fn sentences() {
         let word = |input, index| Refusal::Word {
+            field: Field::Mersenne31,
             input,
             index,
             word: P,
@@ -306,15 +379,39 @@ mod tests {
                 Refusal::Diagonals { index: 17 },
                 "word 17 of T and of T' are equal",
             ),
+            (
+                Refusal::Clearance {
+                    field: Field::Mersenne31,
+                },
+                "a clearance is further than 1073741823 micrometres from 0",
+            ),
+            (
+                Refusal::Clearance {
+                    field: Field::BabyBear,
+                },
+                "a clearance is further than 1006632960 micrometres from 0",
+            ),
+            (Refusal::NoPowerOfTwo, "the rate is no power of two"),
         ] {
             assert_eq!(refusal.to_string(), sentence);
         }
-        let largest = Refusal::Word {
-            input: Input::Y,
-            index: 0,
-            word: u32::MAX,
-        };
-        let sentence = "word 0 of y is 4294967295, not below 2147483647";
-        assert_eq!(largest.to_string(), sentence);
+        for (field, sentence) in [
+            (
+                Field::Mersenne31,
+                "word 0 of y is 4294967295, not below 2147483647",
+            ),
+            (
+                Field::BabyBear,
+                "word 0 of y is 4294967295, not below 2013265921",
+            ),
+        ] {
+            let largest = Refusal::Word {
+                field,
+                input: Input::Y,
+                index: 0,
+                word: u32::MAX,
+            };
+            assert_eq!(largest.to_string(), sentence);
+        }
     }
 }

@@ -1,10 +1,8 @@
-//! The limits, and the lengths that follow from a depth and a rate.
+//! The limits, and the lengths that follow from a depth and a rate. They are the same in both fields.
 //!
 //! A length is 0 where depth, level or rate is not legal. Every job refuses those before it looks
 //! at any length, so a buffer of that length is answered with the right refusal.
 
-/// The modulus p, 2^31 - 1. Every word that is read is below it.
-pub const MODULUS: u32 = tvarchula_sys::TV_MODULUS;
 /// The largest depth.
 pub const MAX_DEPTH: u32 = tvarchula_sys::TV_MAX_DEPTH;
 /// The smallest rate.
@@ -15,8 +13,6 @@ pub const MAX_RATE: u32 = tvarchula_sys::TV_MAX_RATE;
 pub const MAX_QUERIES: usize = tvarchula_sys::TV_MAX_QUERIES as usize;
 /// The longest table, 2^[`MAX_DEPTH`] entries.
 pub const MAX_TABLE_LEN: usize = tvarchula_sys::TV_MAX_TABLE_LEN as usize;
-/// The largest clearance, in micrometres; the smallest is its negative.
-pub const MAX_CLEARANCE: i32 = tvarchula_sys::TV_MAX_CLEARANCE;
 
 /// Words of a message: 2^depth.
 ///

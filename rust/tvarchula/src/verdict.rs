@@ -5,6 +5,7 @@ use core::fmt;
 
 use tvarchula_sys::{self as sys, tv_answer};
 
+use crate::field::Field;
 use crate::refusal::{done, Lent, Refusal};
 
 /// The verdict on an opening that is well formed.
@@ -156,14 +157,18 @@ impl Error for VerifyError {}
 
 /// The verdict from what the verifier answers of a call. Only 0 accepts; a number that is neither a
 /// failure nor a refusal known here, or that stands with a place it does not name, is refused as unknown.
-pub(crate) fn verdict_of(answer: tv_answer, lent: Lent<'_>) -> Result<Verdict, Refusal> {
+pub(crate) fn verdict_of(
+    field: Field,
+    answer: tv_answer,
+    lent: Lent<'_>,
+) -> Result<Verdict, Refusal> {
     Ok(Verdict::Rejected(
         match (answer.number, answer.first, answer.second) {
             (sys::TV_FAILED_SUM, i, 0) => Failure::Sum(i),
             (sys::TV_FAILED_FINAL, 0, 0) => Failure::Final,
             (sys::TV_FAILED_BASE, j, 0) => Failure::Base(j),
             (sys::TV_FAILED_FOLD, query, level) => Failure::Fold { query, level },
-            _ => return done(answer, lent).map(|()| Verdict::Accepted),
+            _ => return done(field, answer, lent).map(|()| Verdict::Accepted),
         },
     ))
 }
@@ -180,7 +185,7 @@ mod tests {
             first,
             second,
         };
-        verdict_of(answer, &[(Input::Y, &[u32::MAX])])
+        verdict_of(Field::BabyBear, answer, &[(Input::Y, &[u32::MAX])])
     }
 
     #[test]
@@ -204,8 +209,12 @@ mod tests {
         assert_eq!(answered(22, 5, 0), rejected(Failure::Base(5)));
         let fold = Failure::Fold { query: 7, level: 2 };
         assert_eq!(answered(23, 7, 2), rejected(fold));
-        let (input, index, word) = (Input::Y, 0, u32::MAX);
-        let refused = Refusal::Word { input, index, word };
+        let refused = Refusal::Word {
+            field: Field::BabyBear,
+            input: Input::Y,
+            index: 0,
+            word: u32::MAX,
+        };
         assert_eq!(answered(4, 0, 6), Err(refused));
         for (number, first, second) in [(20, 3, 1), (21, 1, 0), (22, 5, 1), (4, 1, 6), (11, 1, 0)] {
             let unknown = Refusal::Unknown { number, kind: 0 };

@@ -1,17 +1,30 @@
-//! The order's numbers to try, through the forms that write into lent buffers: every answer, and
-//! every buffer after it.
+//! The order's numbers to try, over the first field, through the forms that write into lent buffers:
+//! every answer, and every buffer after it. `babybear` has numbers for the second.
 
 use tvarchula::*;
 
-const P: u32 = MODULUS;
-const CODE: Code<'static> = Code::new(1, 2, &[1, 1], &[2, 3], &[2_147_483_645, 2_147_483_644]);
-const DEPTH_0: Code<'static> = Code::new(0, 2, &[1, 1], &[], &[]);
+const FIELD: Field = Field::Mersenne31;
+const P: u32 = 2_147_483_647;
+const CODE: Code<'static> = Code::new(
+    FIELD,
+    1,
+    2,
+    &[1, 1],
+    &[2, 3],
+    &[2_147_483_645, 2_147_483_644],
+);
+const DEPTH_0: Code<'static> = Code::new(FIELD, 0, 2, &[1, 1], &[], &[]);
 const BLOCK: [u32; 4] = [19, 26, 2_147_483_638, 2_147_483_631];
 const OPENING: [u32; 6] = [2_147_483_637, 36, 152, 33, 33, 33];
 
 /// 4, at the word of an input.
 fn high(input: Input, index: usize, word: u32) -> Refusal {
-    Refusal::Word { input, index, word }
+    Refusal::Word {
+        field: FIELD,
+        input,
+        index,
+        word,
+    }
 }
 
 /// What a job left in buffers that held 77 everywhere.
@@ -19,57 +32,58 @@ type Left<const N: usize, const W: usize> = (Result<(), Refusal>, [u32; N], [u32
 
 fn to_coefficients<const N: usize>(table: [i32; N]) -> Left<N, 0> {
     let mut message = [77; N];
-    (table_to_coefficients(&table, &mut message), message, [])
+    let done = table_to_coefficients(FIELD, &table, &mut message);
+    (done, message, [])
 }
 
 #[test]
 fn clearances_and_tables() {
     assert_eq!(to_coefficients([-1]), (Ok(()), [2_147_483_646], []));
-    let refused = (Err(Refusal::Clearance), [77], []);
-    assert_eq!(to_coefficients([MAX_CLEARANCE + 1]), refused);
-    assert_eq!(to_coefficients([-MAX_CLEARANCE - 1]), refused);
+    let refused = (Err(Refusal::Clearance { field: FIELD }), [77], []);
+    assert_eq!(to_coefficients([1_073_741_824]), refused);
+    assert_eq!(to_coefficients([-1_073_741_824]), refused);
     assert_eq!(to_coefficients([3, 5, 4, 10]), (Ok(()), [3, 2, 1, 4], []));
     assert_eq!(to_coefficients([1, 2, 3]).0, Err(Refusal::Depth));
     assert_eq!(to_coefficients([]).0, Err(Refusal::Depth));
-    let other_length = table_to_coefficients(&[1, 2], &mut [77; 3]);
+    let other_length = table_to_coefficients(FIELD, &[1, 2], &mut [77; 3]);
     assert_eq!(other_length, Err(Refusal::Length));
 
     let farthest = 1_073_741_823;
-    assert_eq!(read_clearance(0), Ok(Reading::Contact));
-    assert_eq!(read_clearance(1), Ok(Reading::Free(1)));
-    assert_eq!(read_clearance(P - 1), Ok(Reading::Overlap(1)));
-    assert_eq!(read_clearance(farthest), Ok(Reading::Free(farthest)));
+    assert_eq!(read_clearance(FIELD, 0), Ok(Reading::Contact));
+    assert_eq!(read_clearance(FIELD, 1), Ok(Reading::Free(1)));
+    assert_eq!(read_clearance(FIELD, P - 1), Ok(Reading::Overlap(1)));
+    assert_eq!(read_clearance(FIELD, farthest), Ok(Reading::Free(farthest)));
     let overlap = Reading::Overlap(farthest);
-    assert_eq!(read_clearance(farthest + 1), Ok(overlap));
+    assert_eq!(read_clearance(FIELD, farthest + 1), Ok(overlap));
     for word in [P, P + 1, u32::MAX] {
         let refused = Err(high(Input::Block, 0, word));
-        assert_eq!(read_clearance(word), refused);
+        assert_eq!(read_clearance(FIELD, word), refused);
     }
 
     let (mut table, mut work) = ([77; 4], [77; 4]);
-    let done = coefficients_to_table(&[3, 2, 1, 4], &mut table, &mut work);
+    let done = coefficients_to_table(FIELD, &[3, 2, 1, 4], &mut table, &mut work);
     assert_eq!((done, table, work), (Ok(()), [3, 5, 4, 10], [0; 4]));
     let (mut table, mut work) = ([77], [77]);
-    let done = coefficients_to_table(&[1_073_741_824], &mut table, &mut work);
-    assert_eq!((done, table, work), (Ok(()), [-MAX_CLEARANCE], [0]));
+    let done = coefficients_to_table(FIELD, &[1_073_741_824], &mut table, &mut work);
+    assert_eq!((done, table, work), (Ok(()), [-1_073_741_823], [0]));
     let (mut table, mut work) = ([77; 4], [77; 4]);
-    let refused = coefficients_to_table(&[3, 2, P, P + 4], &mut table, &mut work);
+    let refused = coefficients_to_table(FIELD, &[3, 2, P, P + 4], &mut table, &mut work);
     let due = Err(high(Input::Block, 2, P));
     assert_eq!((refused, table, work), (due, [77; 4], [77; 4]));
 }
 
 #[test]
 fn evaluation() {
-    assert_eq!(evaluate(1, &[5, 7], &[3]), Ok(26));
-    assert_eq!(evaluate(1, &[5, 7], &[P - 1]), Ok(P - 2));
+    assert_eq!(evaluate(FIELD, 1, &[5, 7], &[3]), Ok(26));
+    assert_eq!(evaluate(FIELD, 1, &[5, 7], &[P - 1]), Ok(P - 2));
     let z = Err(high(Input::Z, 0, P));
-    assert_eq!(evaluate(1, &[5, 7], &[P]), z);
+    assert_eq!(evaluate(FIELD, 1, &[5, 7], &[P]), z);
     let message = Err(high(Input::Block, 1, u32::MAX));
-    assert_eq!(evaluate(1, &[5, u32::MAX], &[P]), message);
-    assert_eq!(evaluate(1, &[5, 7], &[]), Err(Refusal::Length));
-    assert_eq!(evaluate(17, &[5, 7], &[3]), Err(Refusal::Length));
-    assert_eq!(evaluate(20, &[5, 7], &[3]), Err(Refusal::Length));
-    assert_eq!(evaluate(21, &[5, 7], &[3]), Err(Refusal::Depth));
+    assert_eq!(evaluate(FIELD, 1, &[5, u32::MAX], &[P]), message);
+    assert_eq!(evaluate(FIELD, 1, &[5, 7], &[]), Err(Refusal::Length));
+    assert_eq!(evaluate(FIELD, 17, &[5, 7], &[3]), Err(Refusal::Length));
+    assert_eq!(evaluate(FIELD, 20, &[5, 7], &[3]), Err(Refusal::Length));
+    assert_eq!(evaluate(FIELD, 21, &[5, 7], &[3]), Err(Refusal::Depth));
 }
 
 fn encoded<const N: usize>(code: &Code<'_>, message: &[u32]) -> Left<N, 0> {
@@ -85,14 +99,14 @@ fn decoded(block: [u32; 4]) -> Left<2, 4> {
 
 fn folded(level: u32) -> Left<2, 0> {
     let mut folded = [77; 2];
-    let done = fold(level, 2, CODE.t, CODE.t2, &BLOCK, 4, &mut folded);
+    let done = fold(FIELD, level, 2, CODE.t, CODE.t2, &BLOCK, 4, &mut folded);
     (done, folded, [])
 }
 
 /// The refusal of a fold from level 1.
 fn unfolded(t: &[u32], t2: &[u32], block: &[u32], challenge: u32) -> Refusal {
     let mut folded = [77; 2];
-    let refused = fold(1, 2, t, t2, block, challenge, &mut folded);
+    let refused = fold(FIELD, 1, 2, t, t2, block, challenge, &mut folded);
     assert_eq!(folded, [77; 2]);
     refused.unwrap_err()
 }
@@ -164,8 +178,9 @@ fn refusals() {
         (Refusal::Diagonals { index: 5 }, 6),
         (Refusal::Queries, 7),
         (Refusal::NoCodeword, 8),
-        (Refusal::Clearance, 9),
+        (Refusal::Clearance { field: FIELD }, 9),
         (Refusal::Repeated, 11),
+        (Refusal::NoPowerOfTwo, 12),
     ];
     for (refusal, number) in numbers {
         assert_eq!(refusal.number(), number);
@@ -176,7 +191,14 @@ fn refusals() {
 /// At depth 2 level 1 of the diagonals begins at word 2: an index counts over all levels.
 #[test]
 fn places_at_depth_2() {
-    let code = Code::new(2, 2, &[1, 1], &[2, 3, 4, 5, 6, 7], &[8, 9, 10, 11, 12, 13]);
+    let code = Code::new(
+        FIELD,
+        2,
+        2,
+        &[1, 1],
+        &[2, 3, 4, 5, 6, 7],
+        &[8, 9, 10, 11, 12, 13],
+    );
     let message = [5, 7, 11, 13];
     let (t, t2) = ([2, 3, 4, 5, P, 7], [8, 9, 10, 5, 6, 13]);
     let refused = |code: Code<'_>| {
@@ -218,7 +240,7 @@ fn places_of_a_claim() {
     let (g, t, t2) = ([1, P], [P + 1, 3], [2_147_483_645, P + 2]);
     let (block, opening) = ([19, 26, P + 3, P], [36, 36, 36, 36, P + 7, P]);
     let (z, y, r) = ([P + 4], P + 5, [P + 6]);
-    let mut code = Code::new(1, 2, &g, &t, &t2);
+    let mut code = Code::new(FIELD, 1, 2, &g, &t, &t2);
     // A list that is refused too, after all of these.
     let mut claim = Claim {
         z: &z,
@@ -365,7 +387,7 @@ fn openings_at_depth_0() {
 #[test]
 fn query_and_level_of_a_wrong_fold() {
     let (t, t2) = ([2, 3, 4, 5, 6, 7], [8, 9, 10, 11, 12, 13]);
-    let code = Code::new(2, 2, &[1, 1], &t, &t2);
+    let code = Code::new(FIELD, 2, 2, &[1, 1], &t, &t2);
     let message = [5, 7, 11, 13];
     let (z, r) = ([3, 4], [5, 6]);
     let (done, block, []) = encoded::<8>(&code, &message);

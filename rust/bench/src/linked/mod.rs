@@ -5,16 +5,17 @@
 //! them; those that are written are borrowed alone.
 
 use crate::answer::{Answer, Code};
+use crate::filling::Filling;
 use crate::jobs::{Jobs, Outputs};
-use crate::plain::{Folding, Opened};
+use crate::plain::{Filled, Folding, Opened};
 use crate::products::Products;
-use tvarchula_sys::tv_answer;
+use tvarchula_sys::{tv_answer, TV_FIELD_1, TV_FIELD_2};
 
-/// The static library.
+/// The static library over a field: `TV_FIELD_1` or `TV_FIELD_2`.
 #[derive(Clone, Copy, Debug)]
-pub struct Library;
+pub struct Library<const FIELD: bool>;
 
-/// An older one, where the build was told of it.
+/// An older one over the first field, where the build was told of it.
 #[cfg(before)]
 #[derive(Clone, Copy, Debug)]
 pub struct Before;
@@ -27,7 +28,8 @@ mod library {
     pub use tvarchula_sys::*;
 }
 
-/// The same of an older library: the build renames its functions and declares them.
+/// The same of an older library: the build renames its functions and declares them. One that it has not is
+/// declared too, and never called.
 #[cfg(before)]
 #[allow(dead_code)]
 mod before {
@@ -45,11 +47,12 @@ fn answer(raw: tv_answer) -> Answer {
 
 // SAFETY of all calls below: see the head of this file.
 macro_rules! linked {
-    ($side:ident, $functions:ident) => {
+    ($side:ty, $functions:ident, $field:expr) => {
         impl Jobs for $side {
             fn table_to_coefficients(clearances: &[i32], message: &mut [u32]) -> Answer {
                 answer(unsafe {
                     $functions::tv_table_to_coefficients(
+                        $field,
                         clearances.as_ptr(),
                         clearances.len(),
                         message.as_mut_ptr(),
@@ -65,6 +68,7 @@ macro_rules! linked {
             ) -> Answer {
                 answer(unsafe {
                     $functions::tv_coefficients_to_table(
+                        $field,
                         message.as_ptr(),
                         message.len(),
                         table.as_mut_ptr(),
@@ -78,6 +82,7 @@ macro_rules! linked {
             fn evaluate(depth: u32, message: &[u32], z: &[u32], value: &mut u32) -> Answer {
                 answer(unsafe {
                     $functions::tv_evaluate(
+                        $field,
                         depth,
                         message.as_ptr(),
                         message.len(),
@@ -98,6 +103,7 @@ macro_rules! linked {
                 } = *code;
                 answer(unsafe {
                     $functions::tv_encode(
+                        $field,
                         depth,
                         rate,
                         g.as_ptr(),
@@ -129,6 +135,7 @@ macro_rules! linked {
                 } = *code;
                 answer(unsafe {
                     $functions::tv_decode(
+                        $field,
                         depth,
                         rate,
                         g.as_ptr(),
@@ -158,6 +165,7 @@ macro_rules! linked {
                 } = *lent;
                 answer(unsafe {
                     $functions::tv_fold(
+                        $field,
                         level,
                         rate,
                         t.as_ptr(),
@@ -194,6 +202,7 @@ macro_rules! linked {
                 } = out;
                 answer(unsafe {
                     $functions::tv_write_opening(
+                        $field,
                         depth,
                         rate,
                         g.as_ptr(),
@@ -235,6 +244,7 @@ macro_rules! linked {
                 } = *lent;
                 answer(unsafe {
                     $functions::tv_verify_opening(
+                        $field,
                         depth,
                         rate,
                         g.as_ptr(),
@@ -258,7 +268,12 @@ macro_rules! linked {
                 })
             }
         }
+    };
+}
 
+/// Products alone, of the first field.
+macro_rules! linked_products {
+    ($side:ty, $functions:ident) => {
         impl Products for $side {
             fn side_by_side(rounds: u32, factors: &[u32], values: &mut [u32]) -> bool {
                 unsafe {
@@ -279,6 +294,28 @@ macro_rules! linked {
     };
 }
 
-linked!(Library, library);
+linked!(Library<TV_FIELD_1>, library, TV_FIELD_1);
+linked!(Library<TV_FIELD_2>, library, TV_FIELD_2);
 #[cfg(before)]
-linked!(Before, before);
+linked!(Before, before, TV_FIELD_1);
+linked_products!(Library<TV_FIELD_1>, library);
+#[cfg(before)]
+linked_products!(Before, before);
+
+impl Filling for Library<TV_FIELD_2> {
+    fn fill_roots(depth: u32, rate: u32, filled: Filled<'_>) -> Answer {
+        let Filled { g, t, t2 } = filled;
+        answer(unsafe {
+            library::tv_fill_roots(
+                depth,
+                rate,
+                g.as_mut_ptr(),
+                g.len(),
+                t.as_mut_ptr(),
+                t.len(),
+                t2.as_mut_ptr(),
+                t2.len(),
+            )
+        })
+    }
+}

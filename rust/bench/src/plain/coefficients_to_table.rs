@@ -1,12 +1,12 @@
 //! From the coefficients of a polynomial to its table of clearances.
 
 use super::judge;
-use super::residue::{plus, HALF, P};
+use super::residue::{plus, Reduce};
 use super::transform::transform;
 use crate::answer::{Input, Refusal};
 
 /// Writes the table into `clearances` and leaves zeros in `work`.
-pub fn coefficients_to_table(
+pub fn coefficients_to_table<R: Reduce>(
     message: &[u32],
     clearances: &mut [i32],
     work: &mut [u32],
@@ -15,20 +15,20 @@ pub fn coefficients_to_table(
     judge::power(due)?;
     judge::lengths(&[(clearances.len(), due), (work.len(), due)])?;
     let read = [(Input::Block, message)];
-    judge::words(judge::below(&read), &read)?;
+    judge::words::<R>(judge::below::<R>(&read), &read)?;
     work.copy_from_slice(message);
-    transform(plus, work);
+    transform(plus::<R>, work);
     for (x, word) in clearances.iter_mut().zip(work) {
-        *x = to_clearance(*word);
+        *x = to_clearance::<R>(*word);
         *word = 0;
     }
     Ok(())
 }
 
-fn to_clearance(word: u32) -> i32 {
-    if word < HALF {
+fn to_clearance<R: Reduce>(word: u32) -> i32 {
+    if word < R::HALF {
         word as i32
     } else {
-        -((P - word) as i32)
+        -((R::P - word) as i32)
     }
 }

@@ -19,7 +19,7 @@ pub fn decode<R: Reduce, I: Invert>(
         let due = sizes.block(sizes.depth);
         [(found.0, due), (found.1, sizes.message()), (found.2, due)]
     };
-    judge::code(code, lengths, &[(Input::Block, block)])?;
+    judge::code::<R, 3>(code, lengths, &[(Input::Block, block)])?;
     let settled = settle::<R, I>(code, block, message, work);
     work.fill(0);
     settled
@@ -86,8 +86,8 @@ fn uncross<'a, R: Reduce>(
     right: &mut [u32],
 ) {
     for (((u, v), &s), &t) in left.iter_mut().zip(right).zip(inverses).zip(t) {
-        let slope = times::<R>(s, minus(*v, *u));
-        *u = minus(*u, times::<R>(t, slope));
+        let slope = times::<R>(s, minus::<R>(*v, *u));
+        *u = minus::<R>(*u, times::<R>(t, slope));
         *v = slope;
     }
 }
@@ -168,7 +168,7 @@ fn peel_lent<R: Reduce>(code: &Code<'_>, u: &[u32], v: &[u32], right: &mut [u32]
     let (t, t2) = level(code, right.len());
     let mut same = true;
     for ((((r, &u), &v), &t), &t2) in right.iter_mut().zip(u).zip(v).zip(t).zip(t2) {
-        let left = minus(u, times::<R>(t, *r));
+        let left = minus::<R>(u, times::<R>(t, *r));
         same &= plus_product::<R>(left, t2, *r) == v;
         *r = left;
     }
@@ -180,7 +180,7 @@ fn peel<R: Reduce>(code: &Code<'_>, u: &mut [u32], v: &[u32], right: &[u32]) -> 
     let (t, t2) = level(code, right.len());
     let mut same = true;
     for ((((u, &v), &r), &t), &t2) in u.iter_mut().zip(v).zip(right).zip(t).zip(t2) {
-        *u = minus(*u, times::<R>(t, r));
+        *u = minus::<R>(*u, times::<R>(t, r));
         same &= plus_product::<R>(*u, t2, r) == v;
     }
     same

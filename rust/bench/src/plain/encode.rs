@@ -11,7 +11,7 @@ pub fn encode<R: Reduce>(
     block: &mut [u32],
 ) -> Result<(), Refusal> {
     let found = (message.len(), block.len());
-    judge::code(
+    judge::code::<R, 2>(
         code,
         |sizes| {
             [

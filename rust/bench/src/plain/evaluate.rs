@@ -1,7 +1,7 @@
 //! The value of the polynomial whose coefficients a message holds.
 
 use super::judge;
-use super::residue::{plus, plus_product, times, Reduce};
+use super::residue::{plus_product, times, Reduce};
 use crate::answer::{Input, Refusal};
 
 /// The value at `z`, with word i of `z` for variable i.
@@ -9,7 +9,7 @@ pub fn evaluate<R: Reduce>(depth: u32, message: &[u32], z: &[u32]) -> Result<u32
     let depth = judge::depth(depth)?;
     judge::lengths(&[(message.len(), 1 << depth), (z.len(), depth)])?;
     let read = [(Input::Block, message), (Input::Z, z)];
-    judge::words(judge::below(&read), &read)?;
+    judge::words::<R>(judge::below::<R>(&read), &read)?;
     Ok(value::<R>(message, z))
 }
 
@@ -44,7 +44,7 @@ fn by_top<R: Reduce>(monomials: &[u32; 1 << LOW], message: &[u32], high: &[u32])
 }
 
 /// The products' parts above and below 31 bits are summed apart, so that nothing is reduced before
-/// the end. As 2^31 is 1 modulo p, the high part counts once.
+/// the end. The high part counts 2^31 times, which in the first field is once.
 fn sum_of_products<R: Reduce>(a: &[u32], b: &[u32]) -> u32 {
     let (mut low, mut high) = (0, 0);
     for (&a, &b) in a.iter().zip(b) {
@@ -52,5 +52,5 @@ fn sum_of_products<R: Reduce>(a: &[u32], b: &[u32]) -> u32 {
         low += product & 0x7fff_ffff;
         high += product >> 31;
     }
-    plus(R::reduce(low), R::reduce(high))
+    plus_product::<R>(R::reduce(low), R::reduce(1 << 31), R::reduce(high))
 }

@@ -26,7 +26,7 @@ pub struct Folding<'a> {
 
 /// Writes the fold of the block into `folded`.
 pub fn fold<R: Reduce, I: Invert>(lent: &Folding<'_>, folded: &mut [u32]) -> Result<(), Refusal> {
-    judge(lent, folded.len())?;
+    judge::<R>(lent, folded.len())?;
     fold_words::<R, I>(lent.t, lent.t2, lent.block, lent.challenge, folded);
     Ok(())
 }
@@ -43,7 +43,7 @@ pub fn fold_words<R: Reduce, I: Invert>(
     draw::<R>(t, block, challenge, folded);
 }
 
-fn judge(lent: &Folding<'_>, folded: usize) -> Result<(), Refusal> {
+fn judge<R: Reduce>(lent: &Folding<'_>, folded: usize) -> Result<(), Refusal> {
     judge::ensure((1..=MAX_DEPTH).contains(&lent.level), Refusal::Depth)?;
     let sizes = Sizes {
         depth: lent.level as usize,
@@ -53,14 +53,14 @@ fn judge(lent: &Folding<'_>, folded: usize) -> Result<(), Refusal> {
     let t = [(lent.t.len(), lower), (lent.t2.len(), lower)];
     judge::lengths(&t)?;
     judge::lengths(&[(lent.block.len(), upper), (folded, lower)])?;
-    let (below, apart) = pair(lent.t, lent.t2);
+    let (below, apart) = pair::<R>(lent.t, lent.t2);
     let read: [judge::Read<'_>; 4] = [
         (Input::T, lent.t),
         (Input::T2, lent.t2),
         (Input::Block, lent.block),
         (Input::R, &[lent.challenge]),
     ];
-    judge::words(below && judge::below(&read[2..]), &read)?;
+    judge::words::<R>(below && judge::below::<R>(&read[2..]), &read)?;
     judge::diagonals(apart, lent.t, lent.t2)
 }
 
@@ -69,6 +69,6 @@ fn judge(lent: &Folding<'_>, folded: usize) -> Result<(), Refusal> {
 fn draw<R: Reduce>(t: &[u32], block: &[u32], a: u32, folded: &mut [u32]) {
     let (left, right) = block.split_at(folded.len());
     for (((s, &t), &u), &v) in folded.iter_mut().zip(t).zip(left).zip(right) {
-        *s = plus_product::<R>(u, minus(a, t), times::<R>(*s, minus(v, u)));
+        *s = plus_product::<R>(u, minus::<R>(a, t), times::<R>(*s, minus::<R>(v, u)));
     }
 }

@@ -1,5 +1,6 @@
 //! What the jobs judge, in the order of the refusals.
 
+use super::residue::Reduce;
 use super::scan::{all_below, first_equal, first_high, first_zero, none_zero, pair};
 use crate::answer::{Code, Input, Refusal};
 use crate::sizes::{Sizes, MAX_DEPTH};
@@ -41,16 +42,16 @@ pub fn lengths(found_due: &[(usize, usize)]) -> Result<(), Refusal> {
 pub type Read<'a> = (Input, &'a [u32]);
 
 /// Whether refusal 4 is not due.
-pub fn below(read: &[Read<'_>]) -> bool {
-    read.iter().all(|(_, words)| all_below(words))
+pub fn below<R: Reduce>(read: &[Read<'_>]) -> bool {
+    read.iter().all(|(_, words)| all_below::<R>(words))
 }
 
 /// Refusal 4, by the flag of a scan of all words: only where one is too large the first is looked for.
-pub fn words(below: bool, read: &[Read<'_>]) -> Result<(), Refusal> {
+pub fn words<R: Reduce>(below: bool, read: &[Read<'_>]) -> Result<(), Refusal> {
     if below {
         return Ok(());
     }
-    let first = |&(input, words): &Read<'_>| Some(Refusal::Word(input, first_high(words)?));
+    let first = |&(input, words): &Read<'_>| Some(Refusal::Word(input, first_high::<R>(words)?));
     refused(read.iter().find_map(first))
 }
 
@@ -76,7 +77,7 @@ fn refused(found: Option<Refusal>) -> Result<(), Refusal> {
 
 /// Refusals 1 to 6 of a call that lends a code: `others` gives the lengths of all other slices,
 /// found and due, and `read` holds all other words that are read, in the order of inputs.
-pub fn code<const N: usize>(
+pub fn code<R: Reduce, const N: usize>(
     code: &Code<'_>,
     others: impl FnOnce(Sizes) -> [(usize, usize); N],
     read: &[Read<'_>],
@@ -93,11 +94,11 @@ pub fn code<const N: usize>(
     ])?;
     lengths(&others(sizes))?;
     let Code { g, t, t2, .. } = *code;
-    let in_row = all_below(g);
-    let (in_pairs, apart) = pair(t, t2);
-    let all = in_row & in_pairs && below(read);
-    words(all, &[(Input::G, g), (Input::T, t), (Input::T2, t2)])?;
-    words(all, read)?;
+    let in_row = all_below::<R>(g);
+    let (in_pairs, apart) = pair::<R>(t, t2);
+    let all = in_row & in_pairs && below::<R>(read);
+    words::<R>(all, &[(Input::G, g), (Input::T, t), (Input::T2, t2)])?;
+    words::<R>(all, read)?;
     row(g)?;
     diagonals(apart, t, t2)?;
     Ok(sizes)

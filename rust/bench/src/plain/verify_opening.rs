@@ -1,7 +1,7 @@
 //! Verifying an opening: the checks in their order, and the first that fails.
 
 use super::judge;
-use super::residue::{minus, plus, plus_product, times, Reduce, HALF};
+use super::residue::{minus, plus, plus_product, times, Reduce};
 use super::write_opening::eq_factor;
 use crate::answer::{Answer, Code, Failure, Input, Refusal};
 use crate::sizes::{Sizes, MAX_QUERIES};
@@ -25,7 +25,7 @@ pub struct Opened<'a> {
 
 /// `Ok` where the opening is accepted.
 pub fn verify_opening<R: Reduce>(code: &Code<'_>, lent: &Opened<'_>) -> Result<(), Answer> {
-    let sizes = judge(code, lent)?;
+    let sizes = judge::<R>(code, lent)?;
     let claim = sums::<R>(sizes, lent)?;
     let v = lent.opening[sizes.final_value()];
     let eq = lent.z.iter().zip(lent.r);
@@ -41,7 +41,7 @@ pub fn verify_opening<R: Reduce>(code: &Code<'_>, lent: &Opened<'_>) -> Result<(
     Ok(())
 }
 
-fn judge(code: &Code<'_>, lent: &Opened<'_>) -> Result<Sizes, Refusal> {
+fn judge<R: Reduce>(code: &Code<'_>, lent: &Opened<'_>) -> Result<Sizes, Refusal> {
     let Opened {
         block,
         z,
@@ -65,7 +65,7 @@ fn judge(code: &Code<'_>, lent: &Opened<'_>) -> Result<Sizes, Refusal> {
         (Input::R, r),
         (Input::Opening, opening),
     ];
-    let sizes = judge::code(code, lengths, &read)?;
+    let sizes = judge::code::<R, 4>(code, lengths, &read)?;
     judge::ensure(queries_ok(sizes, lent.queries), Refusal::Queries)?;
     judge::ensure(different(lent.queries), Refusal::Repeated)?;
     Ok(sizes)
@@ -99,7 +99,7 @@ fn sums<R: Reduce>(sizes: Sizes, lent: &Opened<'_>) -> Result<u32, Failure> {
     let mut claim = lent.y;
     for i in (1..=sizes.depth).rev() {
         let h = &lent.opening[sizes.round(i)];
-        if plus(h[0], h[1]) != claim {
+        if plus::<R>(h[0], h[1]) != claim {
             return Err(Failure::Sum(i));
         }
         claim = through::<R>([h[0], h[1], h[2]], lent.r[i - 1]);
@@ -109,9 +109,9 @@ fn sums<R: Reduce>(sizes: Sizes, lent: &Opened<'_>) -> Result<u32, Failure> {
 
 /// At x, of degree at most 2 and with the values a, b, c at 0, 1, 2, by differences.
 fn through<R: Reduce>([a, b, c]: [u32; 3], x: u32) -> u32 {
-    let first = minus(b, a);
-    let second = minus(minus(c, b), first);
-    let halved = times::<R>(minus(x, 1), HALF);
+    let first = minus::<R>(b, a);
+    let second = minus::<R>(minus::<R>(c, b), first);
+    let halved = times::<R>(minus::<R>(x, 1), R::HALF);
     plus_product::<R>(a, x, plus_product::<R>(first, halved, second))
 }
 
@@ -147,8 +147,11 @@ fn walk<R: Reduce>(
         let at = sizes.diagonal(level).start + u;
         let (t, t2, w) = (code.t[at], code.t2[at], upper[u]);
         // The line through both words of the upper block, with no division.
-        let rise = times::<R>(minus(t2, t), minus(lower[u], w));
-        let run = times::<R>(minus(lent.r[level], t), minus(upper[lower.len() + u], w));
+        let rise = times::<R>(minus::<R>(t2, t), minus::<R>(lower[u], w));
+        let run = times::<R>(
+            minus::<R>(lent.r[level], t),
+            minus::<R>(upper[lower.len() + u], w),
+        );
         if rise != run {
             return Err(level);
         }

@@ -30,7 +30,7 @@ pub fn write_opening<R: Reduce>(
         std::array::from_fn::<_, 5, _>(|k| (found[k], due[k]))
     };
     let read = [(Input::Block, message), (Input::Z, z), (Input::R, r)];
-    let sizes = judge::code(code, lengths, &read)?;
+    let sizes = judge::code::<R, 5>(code, lengths, &read)?;
     let claimed = value::<R>(message, z);
     work[..message.len()].copy_from_slice(message);
     rounds::<R>(code, sizes, z, r, opening, work);
@@ -88,7 +88,7 @@ fn weigh<R: Reduce>(weight: u32, z: u32, x: u32) -> u32 {
 
 /// z x + (1 - z)(1 - x)
 pub fn eq_factor<R: Reduce>(z: u32, x: u32) -> u32 {
-    plus_product::<R>(times::<R>(z, x), minus(1, z), minus(1, x))
+    plus_product::<R>(times::<R>(z, x), minus::<R>(1, z), minus::<R>(1, x))
 }
 
 /// The left half becomes left + a right.

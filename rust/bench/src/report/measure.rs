@@ -28,7 +28,7 @@ impl Plan {
     /// To see that everything runs.
     pub const QUICK: Plan = Plan {
         rounds: 1,
-        samples: 3,
+        samples: 2,
         least: Duration::ZERO,
     };
 }
@@ -69,15 +69,15 @@ pub fn least<const N: usize>(samples: &Samples<N>, side: usize) -> f64 {
     times.fold(f64::INFINITY, f64::min)
 }
 
-/// The first side's time by another's, in each sample: the quartiles. A sample's sides meet the
+/// One side's time by another's, in each sample: the quartiles. A sample's sides meet the
 /// machine in the same state, so that the ratio tells more than that of two medians.
-pub fn ratios<const N: usize>(samples: &Samples<N>, other: usize) -> [f64; 3] {
-    quartiles(samples.iter().map(|times| times[0] / times[other]))
+pub fn ratios<const N: usize>(samples: &Samples<N>, side: usize, other: usize) -> [f64; 3] {
+    quartiles(samples.iter().map(|times| times[side] / times[other]))
 }
 
 /// A call of the fastest side. The first calls are slower than those that follow.
 fn fastest(buffers: &mut Buffers, sides: &[Side<'_>]) -> Duration {
-    let first_calls = (0..4).flat_map(|_| sides);
+    let first_calls = (0..2).flat_map(|_| sides);
     let fastest = first_calls.map(|side| time(1, buffers, side)).min();
     fastest.unwrap_or_default()
 }
@@ -88,9 +88,11 @@ fn repeats(least: Duration, fastest: Duration) -> u32 {
     least.as_nanos().div_ceil(once).max(1) as u32
 }
 
-/// The thread's time. The buffers are refilled outside it.
+/// The thread's time. The buffers are refilled outside it, and there is one call outside it: else the first
+/// side of a field would find the words of the other one in the caches.
 fn time(repeats: u32, buffers: &mut Buffers, side: Side<'_>) -> Duration {
     buffers.refill();
+    side(black_box(buffers));
     let start = clock::now();
     for _ in 0..repeats {
         side(black_box(buffers));

@@ -2,19 +2,22 @@
 
 use super::measure::{least, measure, median, ratios, Plan, Samples, Side};
 use super::table::Table;
-use super::times::SIDES;
-use super::{micros, ratio, NAMES};
+use super::{micros, ratio};
 use std::hint::black_box;
-use tvarchula_bench::plain::{Mersenne, Remainder, P};
+use tvarchula_bench::plain::{Mersenne, Remainder, FIRST};
 #[cfg(before)]
 use tvarchula_bench::Before;
-use tvarchula_bench::{Buffers, Library, Plain, Products};
+use tvarchula_bench::{Buffers, Library, Plain, Products, TV_FIELD_1};
 
 /// What stands above the table.
 pub const ABOUT: &str = "\
-Microseconds for a million products and nothing else: a thousand rounds over a thousand words, which stay in the
+Microseconds for a million products of the first field and nothing else: a thousand rounds over a thousand words, which stay in the
 cache. Side by side, each round multiplies each of a thousand values by its factor; one after another, one value by each of a
 thousand factors. The median, in brackets the least time.";
+
+/// The sides, all over the first field, in the order in which they are measured.
+const NAMES: [&str; 4] = ["library", "plain", "plain %", "before"];
+const SIDES: usize = 3 + cfg!(before) as usize;
 
 const WORDS: usize = 1000;
 const ROUNDS: u32 = 1000;
@@ -37,16 +40,16 @@ fn apart<S: Products>(factors: &[u32], buffers: &mut Buffers) {
 
 fn chained<S: Products>(factors: &[u32], buffers: &mut Buffers) {
     buffers.value = S::in_chain(ROUNDS, factors);
-    assert_ne!(buffers.value, P, "the words are below p");
+    assert_ne!(buffers.value, FIRST, "the words are below p");
 }
 
 /// The same work of every side.
 macro_rules! of_all_sides {
     ($work:ident) => {
         [
-            $work::<Library>,
+            $work::<Library<TV_FIELD_1>>,
             $work::<Plain<Mersenne>>,
-            $work::<Plain<Remainder>>,
+            $work::<Plain<Remainder<FIRST>>>,
             #[cfg(before)]
             $work::<Before>,
         ]
@@ -62,7 +65,7 @@ pub fn add(plan: Plan, millions: &mut Millions) {
 
 fn of_work(plan: Plan, sides: [Work; SIDES]) -> Samples<SIDES> {
     // Any words will do: no time depends on them.
-    let factors: Vec<u32> = (0..WORDS as u32).map(|i| P / 2 + 977 * i).collect();
+    let factors: Vec<u32> = (0..WORDS as u32).map(|i| FIRST / 2 + 977 * i).collect();
     let mut buffers = Buffers {
         result: vec![0; WORDS],
         ..Buffers::default()
@@ -105,7 +108,7 @@ pub fn table(millions: &Millions) -> Table {
         };
         let mut row = vec![name.to_owned()];
         row.extend((0..SIDES).map(time));
-        row.extend((1..SIDES).map(|other| ratio(ratios(samples, other))));
+        row.extend((1..SIDES).map(|other| ratio(ratios(samples, 0, other))));
         table.row(row);
     }
     table

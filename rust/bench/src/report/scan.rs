@@ -4,7 +4,8 @@ use super::measure::{least, measure, median, ratios, Plan, Samples, Side};
 use super::ratio;
 use super::table::Table;
 use std::hint::black_box;
-use tvarchula_bench::{call, Buffers, Inputs, Job, Library, Plain};
+use tvarchula_bench::plain::{Barrett, Mersenne};
+use tvarchula_bench::{call, Buffers, Call, Inputs, Job, Library, Plain, TV_FIELD_1, TV_FIELD_2};
 
 /// What stands above the table.
 pub const ABOUT: &str = "\
@@ -16,7 +17,7 @@ brackets of the least time.";
 /// computed. A word too large would be looked for once more, for its place.
 fn refused(inputs: &Inputs) -> Inputs {
     let mut inputs = inputs.clone();
-    inputs.queries.clear();
+    inputs.draw_queries(0);
     inputs
 }
 
@@ -28,19 +29,20 @@ fn read(inputs: &Inputs) -> u32 {
     slices.into_iter().map(sum).fold(0, u32::wrapping_add)
 }
 
-/// The sides: the library, plain Rust, and the sum alone.
-pub type Scans = Samples<3>;
+/// The sides: the library and plain Rust over the first field, both over the second, and the sum alone.
+pub type Scans = Samples<5>;
 
 /// One round at all depths.
-pub fn add(plan: Plan, lent: &[Inputs], scans: &mut [Scans]) {
-    for (inputs, scans) in lent.iter().map(refused).zip(scans) {
-        scans.extend(scanned(plan, &inputs));
+pub fn add(plan: Plan, lent: &[[Inputs; 2]], scans: &mut [Scans]) {
+    for (inputs, scans) in lent.iter().zip(scans) {
+        scans.extend(scanned(plan, &inputs.each_ref().map(refused)));
     }
 }
 
 /// The scans at all depths.
-pub fn table(lent: &[Inputs], scans: &[Scans]) -> Table {
+pub fn table(lent: &[[Inputs; 2]], scans: &[Scans]) -> Table {
     let mut table = Table::new([
+        "field",
         "depth",
         "bytes",
         "library, GB/s",
@@ -48,33 +50,47 @@ pub fn table(lent: &[Inputs], scans: &[Scans]) -> Table {
         "sum, GB/s",
         "library / plain",
         "library / sum",
+        "second / first",
     ]);
-    for (inputs, scans) in lent.iter().map(refused).zip(scans) {
-        let bytes = inputs.bytes(Job::Verify);
-        let speed = |nanos: f64| bytes as f64 / nanos;
-        let speed = |side: usize| {
-            let (median, least) = (median(scans, side), least(scans, side));
-            format!("{:.1} ({:.1})", speed(median), speed(least))
-        };
-        let mut row = vec![inputs.depth.to_string(), bytes.to_string()];
-        row.extend([0, 1, 2].map(speed));
-        row.extend([1, 2].map(|other| ratio(ratios(scans, other))));
-        table.row(row);
+    for (field, library) in [("first", 0), ("second", 2)] {
+        for (inputs, scans) in lent.iter().zip(scans) {
+            let inputs = refused(&inputs[0]);
+            let bytes = inputs.bytes(Job::Verify);
+            let speed = |nanos: f64| bytes as f64 / nanos;
+            let speed = |side: usize| {
+                let (median, least) = (median(scans, side), least(scans, side));
+                format!("{:.1} ({:.1})", speed(median), speed(least))
+            };
+            let depth = inputs.depth.to_string();
+            let mut row = vec![field.to_owned(), depth, bytes.to_string()];
+            row.extend([library, library + 1, 4].map(speed));
+            row.extend([library + 1, 4].map(|other| ratio(ratios(scans, library, other))));
+            row.push(match library {
+                0 => String::new(),
+                _ => ratio(ratios(scans, library, 0)),
+            });
+            table.row(row);
+        }
     }
     table
 }
 
-fn scanned(plan: Plan, inputs: &Inputs) -> Scans {
-    let library: Side<'_> = &|buffers: &mut Buffers| {
-        let answer = call::<Library>(Job::Verify, black_box(inputs), buffers);
-        assert_eq!(answer.number, 7);
-    };
-    let plain: Side<'_> = &|buffers: &mut Buffers| {
-        let answer = call::<Plain>(Job::Verify, black_box(inputs), buffers);
-        assert_eq!(answer.number, 7);
+fn scanned(plan: Plan, [first, second]: &[Inputs; 2]) -> Scans {
+    let scan = |side: Call, inputs| {
+        move |buffers: &mut Buffers| {
+            let answer = side(Job::Verify, black_box(inputs), buffers);
+            assert_eq!(answer.number, 7);
+        }
     };
     let sum: Side<'_> = &|_: &mut Buffers| {
-        black_box(read(black_box(inputs)));
+        black_box(read(black_box(first)));
     };
-    measure(plan, &mut Buffers::default(), [library, plain, sum])
+    let sides: [Side<'_>; 5] = [
+        &scan(call::<Library<TV_FIELD_1>>, first),
+        &scan(call::<Plain<Mersenne>>, first),
+        &scan(call::<Library<TV_FIELD_2>>, second),
+        &scan(call::<Plain<Barrett>>, second),
+        sum,
+    ];
+    measure(plan, &mut Buffers::default(), sides)
 }

@@ -1,14 +1,34 @@
-//! The times of all jobs.
+//! The times of all jobs, over both fields.
 
 use super::measure::{measure, Plan, Samples, Side};
 use std::hint::black_box;
-use tvarchula_bench::plain::{Mersenne, OneChain, Remainder, SixteenChains};
+use tvarchula_bench::plain::{Barrett, Mersenne, OneChain, Remainder, SixteenChains, FIRST};
 #[cfg(before)]
 use tvarchula_bench::Before;
-use tvarchula_bench::{call, Buffers, Call, Inputs, Job, Library, Plain};
+use tvarchula_bench::{call, Buffers, Call, Inputs, Job, Library, Plain, TV_FIELD_1, TV_FIELD_2};
 
-/// The library, plain Rust, plain Rust with `%`, and an older library where the build was told of one.
-pub const SIDES: usize = 3 + cfg!(before) as usize;
+/// How many sides there are: those below, the last where the build was told of an older library.
+pub const SIDES: usize = 5 + cfg!(before) as usize;
+
+/// The library over the first field.
+pub const LIBRARY: usize = 0;
+/// Plain Rust over the first field.
+pub const PLAIN: usize = 1;
+/// The same with `%`.
+pub const REMAINDER: usize = 2;
+/// The library over the second field.
+pub const LIBRARY_2: usize = 3;
+/// Plain Rust over the second field.
+pub const PLAIN_2: usize = 4;
+/// An older library, over the first field.
+pub const BEFORE: usize = 5;
+
+/// Their names in the table of a field.
+pub const NAMES: [&str; 6] = ["library", "plain", "plain %", "library", "plain", "before"];
+
+/// So many lists of queries take turns. Of a list that every call takes the processor learns how each jump
+/// that depends on words will go, and there is no such list in use.
+pub const LISTS: usize = 64;
 
 /// A job as it is measured.
 #[derive(Clone, Copy, Debug)]
@@ -19,15 +39,16 @@ pub struct Case {
     pub job: Job,
     /// How many queries are lent, or all where there are fewer places.
     pub queries: usize,
-    /// Plain Rust, with the reduction for Mersenne primes and with `%`.
-    plain: [Call; 2],
+    /// Plain Rust: over the first field, there with `%`, over the second field.
+    plain: [Call; 3],
 }
 
 /// A job beside plain Rust that works in the same way; a fold inverts in sixteen chains.
 const fn case(name: &'static str, job: Job, queries: usize) -> Case {
-    let plain: [Call; 2] = [
+    let plain: [Call; 3] = [
         call::<Plain<Mersenne, SixteenChains>>,
-        call::<Plain<Remainder, SixteenChains>>,
+        call::<Plain<Remainder<FIRST>, SixteenChains>>,
+        call::<Plain<Barrett, SixteenChains>>,
     ];
     Case {
         name,
@@ -41,7 +62,8 @@ const fn case(name: &'static str, job: Job, queries: usize) -> Case {
 pub const FOLD_ONE_CHAIN: Case = Case {
     plain: [
         call::<Plain<Mersenne, OneChain>>,
-        call::<Plain<Remainder, OneChain>>,
+        call::<Plain<Remainder<FIRST>, OneChain>>,
+        call::<Plain<Barrett, OneChain>>,
     ],
     ..case("fold, one chain", Job::Fold, 0)
 };
@@ -66,14 +88,17 @@ impl Case {
         matches!(self.job, Job::ToCoefficients | Job::ToTable)
     }
 
-    fn calls(&self) -> [Call; SIDES] {
-        let [mersenne, remainder] = self.plain;
+    /// The sides in their order, each with the inputs of its field.
+    fn calls<'a>(&self, [first, second]: [&'a Inputs; 2]) -> [(Call, &'a Inputs); SIDES] {
+        let [mersenne, remainder, barrett] = self.plain;
         [
-            call::<Library>,
-            mersenne,
-            remainder,
+            (call::<Library<TV_FIELD_1>>, first),
+            (mersenne, first),
+            (remainder, first),
+            (call::<Library<TV_FIELD_2>>, second),
+            (barrett, second),
             #[cfg(before)]
-            call::<Before>,
+            (call::<Before>, first),
         ]
     }
 
@@ -89,13 +114,13 @@ impl Case {
 /// What a case takes on every side.
 pub type Times = Samples<SIDES>;
 
-/// Measures a case on inputs that have its number of queries.
-pub fn of_case(plan: Plan, case: &Case, inputs: &Inputs) -> Times {
-    let calls = case.calls();
+/// Measures a case on inputs of both fields that have its number of queries.
+pub fn of_case(plan: Plan, case: &Case, inputs: [&Inputs; 2]) -> Times {
+    let calls = case.calls(inputs);
     let job = case.job;
-    let mut buffers = Buffers::of(job, inputs);
-    alike(job, inputs, &buffers, &calls);
-    let sides = calls.map(|call| {
+    let mut buffers = Buffers::of(job, inputs[0]);
+    alike(job, &buffers, &calls);
+    let sides = calls.map(|(call, inputs)| {
         move |buffers: &mut Buffers| {
             black_box(call(job, black_box(inputs), buffers));
         }
@@ -104,14 +129,17 @@ pub fn of_case(plan: Plan, case: &Case, inputs: &Inputs) -> Times {
     measure(plan, &mut buffers, sides)
 }
 
-/// Stops the program where a side refuses or writes other words than the library.
-fn alike(job: Job, inputs: &Inputs, buffers: &Buffers, calls: &[Call; SIDES]) {
-    let written = calls.map(|call| {
+/// Stops the program where a side refuses or writes other words than the library over the same field.
+fn alike(job: Job, buffers: &Buffers, calls: &[(Call, &Inputs); SIDES]) {
+    let written = calls.map(|(call, inputs)| {
         let mut buffers = buffers.clone();
         let answer = call(job, inputs, &mut buffers);
         assert_eq!(answer.number, 0, "{job:?} at depth {}", inputs.depth);
         buffers
     });
-    let same = written.windows(2).all(|pair| pair[0] == pair[1]);
-    assert!(same, "{job:?} at depth {}: other words", inputs.depth);
+    for ((_, inputs), words) in calls.iter().zip(&written) {
+        let first = calls.iter().position(|(_, other)| other.p == inputs.p);
+        let same = first.is_some_and(|first| written[first] == *words);
+        assert!(same, "{job:?} at depth {}: other words", inputs.depth);
+    }
 }

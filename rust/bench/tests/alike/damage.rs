@@ -1,6 +1,6 @@
-//! Ways to spoil a call. A job that does not take what is spoiled answers as before.
+//! Ways to spoil a call over either field. A job that does not take what is spoiled answers as before.
 
-use tvarchula_bench::plain::{MAX_CLEARANCE, P};
+use tvarchula_bench::plain::{FIRST, SECOND};
 use tvarchula_bench::{Buffers, Inputs, MAX_DEPTH, MAX_QUERIES};
 
 /// One way to spoil a call.
@@ -31,29 +31,29 @@ pub const ALL: &[Damage] = &[
     |_, b| longer(&mut b.table),
     |_, b| shorter(&mut b.work),
     // 4
-    |i, _| set(i.g.last_mut(), P),
+    |i, _| set(i.g.last_mut(), i.p),
     |i, _| set(i.t.last_mut(), u32::MAX),
-    |i, _| set(i.t2.last_mut(), P),
-    |i, _| set(i.fold_t.last_mut(), P + 1),
-    |i, _| set(i.fold_t2.last_mut(), P),
-    |i, _| set(i.message.last_mut(), P),
+    |i, _| set(i.t2.last_mut(), i.p),
+    |i, _| set(i.fold_t.last_mut(), i.p + 1),
+    |i, _| set(i.fold_t2.last_mut(), i.p),
+    |i, _| set(i.message.last_mut(), i.p),
     |i, _| set(i.block.last_mut(), u32::MAX),
-    |i, _| set(i.z.last_mut(), P),
-    |i, _| i.y = P,
-    |i, _| set(i.r.last_mut(), P),
-    |i, _| set(i.opening.last_mut(), P),
-    |i, _| i.challenge = P,
+    |i, _| set(i.z.last_mut(), i.p),
+    |i, _| i.y = i.p,
+    |i, _| set(i.r.last_mut(), i.p),
+    |i, _| set(i.opening.last_mut(), i.p),
+    |i, _| i.challenge = i.p,
     // The same at other places, and at two
-    |i, _| set(i.g.first_mut(), P),
-    |i, _| set(middle(&mut i.t), P),
-    |i, _| set(middle(&mut i.t2), P),
-    |i, _| set(middle(&mut i.fold_t), P),
-    |i, _| set(middle(&mut i.message), P),
-    |i, _| set(middle(&mut i.block), P),
+    |i, _| set(i.g.first_mut(), i.p),
+    |i, _| set(middle(&mut i.t), i.p),
+    |i, _| set(middle(&mut i.t2), i.p),
+    |i, _| set(middle(&mut i.fold_t), i.p),
+    |i, _| set(middle(&mut i.message), i.p),
+    |i, _| set(middle(&mut i.block), i.p),
     |i, _| set(i.z.first_mut(), u32::MAX),
-    |i, _| set(i.r.first_mut(), P),
-    |i, _| behind_middle(&mut i.opening).fill(P),
-    |i, _| behind_middle(&mut i.block).fill(P),
+    |i, _| set(i.r.first_mut(), i.p),
+    |i, _| behind_middle(&mut i.opening).fill(i.p),
+    |i, _| behind_middle(&mut i.block).fill(i.p),
     // 5, 6, 7 and 11
     |i, _| set(i.g.last_mut(), 0),
     |i, _| behind_middle(&mut i.g).fill(0),
@@ -69,22 +69,26 @@ pub const ALL: &[Damage] = &[
     |i, _| i.queries.extend_from_within(..1.min(i.queries.len())),
     |i, _| first_again(&mut i.queries),
     // 8 and 23
-    |i, _| moved(i.block.first_mut()),
-    |i, _| moved(i.block.last_mut()),
+    |i, _| moved(i.p, i.block.first_mut()),
+    |i, _| moved(i.p, i.block.last_mut()),
     |i, _| queried(i),
     // 9
-    |i, _| set(i.clearances.last_mut(), MAX_CLEARANCE + 1),
+    |i, _| set(i.clearances.last_mut(), (i.p / 2) as i32 + 1),
     |i, _| set(i.clearances.last_mut(), i32::MIN),
+    // 4 and 9 over the second field, nothing to refuse over the first
+    |i, _| set(i.t.first_mut(), FIRST - 1),
+    |i, _| set(middle(&mut i.opening), SECOND),
+    |i, _| set(i.clearances.first_mut(), -((FIRST / 2) as i32)),
     // 20 to 23
-    |i, _| i.y = (i.y + 1) % P,
-    |i, _| moved(i.opening.first_mut()),
-    |i, _| moved(i.opening.get_mut(3 * i.depth as usize)),
-    |i, _| moved(i.opening.last_mut()),
-    |i, _| moved(middle(&mut i.opening)),
-    |i, _| moved(middle(&mut i.g)),
+    |i, _| i.y = (i.y + 1) % i.p,
+    |i, _| moved(i.p, i.opening.first_mut()),
+    |i, _| moved(i.p, i.opening.get_mut(3 * i.depth as usize)),
+    |i, _| moved(i.p, i.opening.last_mut()),
+    |i, _| moved(i.p, middle(&mut i.opening)),
+    |i, _| moved(i.p, middle(&mut i.g)),
     // Other words, but nothing to refuse
-    |i, _| i.message.fill(P - 1),
-    |i, _| i.clearances.fill(-MAX_CLEARANCE),
+    |i, _| i.message.fill(i.p - 1),
+    |i, _| i.clearances.fill(-((i.p / 2) as i32)),
     |i, _| i.draw_queries(MAX_QUERIES),
 ];
 
@@ -121,17 +125,17 @@ fn first_again(queries: &mut [u32]) {
     }
 }
 
-/// Another residue in a place, where there is such a place.
-fn moved(place: Option<&mut u32>) {
+/// Another residue modulo p in a place, where there is such a place.
+fn moved(p: u32, place: Option<&mut u32>) {
     if let Some(word) = place {
-        *word = word.wrapping_add(1) % P;
+        *word = word.wrapping_add(1) % p;
     }
 }
 
 /// Another word where the last query looks first.
 fn queried(inputs: &mut Inputs) {
     if let Some(&query) = inputs.queries.last() {
-        moved(inputs.block.get_mut(query as usize));
+        moved(inputs.p, inputs.block.get_mut(query as usize));
     }
 }
 

@@ -1,7 +1,7 @@
 //! Where 4, 5 and 6 are: the first word that offends, in the first input that has one. Every place is
 //! written down by hand.
 
-use super::{answer, BLOCK, CODE, OPENING, P};
+use super::{answer, level, BLOCK, CODE, FIELD, OPENING, P};
 use crate::answer::{Answer, Reading};
 use crate::code::LentCode;
 use crate::jobs::{CodeJobs, GroundJobs, OpeningJobs};
@@ -11,6 +11,7 @@ type Code = LentCode<'static>;
 
 /// At rate 2 level 0 of the diagonals has 2 words, level 1 has words 2 to 5.
 const DEPTH_2: Code = LentCode {
+    field: FIELD,
     depth: 2,
     rate: 2,
     g: &[1, 1],
@@ -27,11 +28,11 @@ pub fn ground<J: GroundJobs>() {
             kind: 0,
             amount: 0,
         };
-        assert_eq!(J::read_clearance(word), refused);
+        assert_eq!(J::read_clearance(FIELD, word), refused);
     }
     let back = |message: [u32; 4]| {
         let (mut table, mut work) = ([77; 4], [77; 4]);
-        let refused = J::coefficients_to_table(&message, &mut table, &mut work);
+        let refused = J::coefficients_to_table(FIELD, &message, &mut table, &mut work);
         assert_eq!((table, work), ([77; 4], [77; 4]));
         refused
     };
@@ -41,7 +42,7 @@ pub fn ground<J: GroundJobs>() {
     assert_eq!(back([3, P, 1, P]), answer(4, 1, 4));
     let evaluate = |message: [u32; 4], z: [u32; 2]| {
         let mut value = 77;
-        let refused = J::evaluate(2, &message, &z, &mut value);
+        let refused = J::evaluate(FIELD, 2, &message, &z, &mut value);
         assert_eq!(value, 77);
         refused
     };
@@ -73,7 +74,7 @@ pub fn code<J: CodeJobs>() {
 
     let fold = |t: [u32; 2], t2: [u32; 2], block: [u32; 4], challenge| {
         let mut folded = [77; 2];
-        let refused = J::fold(1, 2, &t, &t2, &block, challenge, &mut folded);
+        let refused = J::fold(level(FIELD, 1, &t, &t2), &block, challenge, &mut folded);
         assert_eq!(folded, [77; 2]);
         refused
     };
@@ -85,9 +86,9 @@ pub fn code<J: CodeJobs>() {
     assert_eq!(fold([2, 3], [4, 3], BLOCK, 4), answer(6, 1, 0));
     // The upper level of the two, lent alone: its words count from 0.
     let (t, mut folded) = ([4, 5, 6, 7], [77; 4]);
-    let refused = J::fold(2, 2, &t, &[9, 8, 6, 6], &[1; 8], 4, &mut folded);
+    let refused = J::fold(level(FIELD, 2, &t, &[9, 8, 6, 6]), &[1; 8], 4, &mut folded);
     assert_eq!(refused, answer(6, 2, 0));
-    let refused = J::fold(2, 2, &t, &[9, 8, 9, P], &[1; 8], 4, &mut folded);
+    let refused = J::fold(level(FIELD, 2, &t, &[9, 8, 9, P]), &[1; 8], 4, &mut folded);
     assert_eq!(refused, answer(4, 3, 3));
     assert_eq!(folded, [77; 4]);
 }

@@ -1,20 +1,20 @@
 //! Compares the linked library with the reference at the largest depth and tells what each call took.
 //!
-//! `--depths 16,20` names other depths, each 1 to the largest, and then shows how the times grow;
-//! `--rates 2,8,16` the rates. Times are those of the library's call by the wall clock.
+//! `--fields 2` names one field alone; `--depths 16,20` other depths, each 1 to the largest, and then
+//! shows how the times grow; `--rates 2,8,16` the rates. Times are those of the library's call by the wall clock.
 
 use std::ops::RangeInclusive;
 use std::process::ExitCode;
 use tvarchula_compare::large::{growth, run, Line, HEADS};
 use tvarchula_compare::linked::Linked;
 use tvarchula_compare::run::any;
-use tvarchula_reference::Reference;
+use tvarchula_reference::{Field, Reference};
 use tvarchula_sys::{TV_MAX_DEPTH, TV_MAX_RATE, TV_MIN_RATE};
 
-const USAGE: &str = "usage: largest [--depths 16,20] [--rates 2,8,16]";
+const USAGE: &str = "usage: largest [--fields 1,2] [--depths 16,20] [--rates 2,8,16]";
 
 fn main() -> ExitCode {
-    let Some([depths, rates]) = options(std::env::args().skip(1)) else {
+    let Some([fields, depths, rates]) = options(std::env::args().skip(1)) else {
         eprintln!("{USAGE}");
         return ExitCode::FAILURE;
     };
@@ -25,9 +25,12 @@ fn main() -> ExitCode {
         lines.push(*line);
     };
     let sides = [any::<Linked>, any::<Reference>];
-    if let Err(difference) = run(sides, &depths, &rates, &mut tell) {
-        eprintln!("library and reference differ:\n{difference}");
-        return ExitCode::FAILURE;
+    for field in fields {
+        let field = Field::ALL[field - 1];
+        if let Err(difference) = run(sides, field, &depths, &rates, &mut tell) {
+            eprintln!("library and reference differ:\n{difference}");
+            return ExitCode::FAILURE;
+        }
     }
     for growth in growth(&lines) {
         println!("{growth}");
@@ -35,18 +38,20 @@ fn main() -> ExitCode {
     ExitCode::SUCCESS
 }
 
-/// Depths and rates.
-fn options(mut arguments: impl Iterator<Item = String>) -> Option<[Vec<usize>; 2]> {
+/// Fields, depths and rates.
+fn options(mut arguments: impl Iterator<Item = String>) -> Option<[Vec<usize>; 3]> {
+    let mut fields = vec![1, 2];
     let mut depths = vec![TV_MAX_DEPTH as usize];
     let mut rates = vec![2, 8, 16];
     while let Some(argument) = arguments.next() {
         match argument.as_str() {
+            "--field" | "--fields" => fields = numbers(&arguments.next()?, 1..=2)?,
             "--depth" | "--depths" => depths = numbers(&arguments.next()?, 1..=TV_MAX_DEPTH)?,
             "--rate" | "--rates" => rates = numbers(&arguments.next()?, TV_MIN_RATE..=TV_MAX_RATE)?,
             _ => return None,
         }
     }
-    Some([depths, rates])
+    Some([fields, depths, rates])
 }
 
 /// Numbers between commas, each legal.

@@ -1,6 +1,6 @@
 //! What is called at a large size, and what is due.
 
-use crate::call::Job;
+use crate::job::Job;
 use tvarchula_reference::Answer;
 
 /// One of the calls.
@@ -12,6 +12,8 @@ pub enum Case {
     ToTable,
     /// The value at a point.
     Evaluate,
+    /// A code with roots of unity, over the second field where the rate is a power of two.
+    Fill,
     /// A message to its codeword.
     Encode,
     /// A codeword to its message.
@@ -31,10 +33,11 @@ pub enum Case {
 
 impl Case {
     /// All of them, in the order in which they are called.
-    pub const ALL: [Case; 10] = [
+    pub const ALL: [Case; 11] = [
         Case::ToCoefficients,
         Case::ToTable,
         Case::Evaluate,
+        Case::Fill,
         Case::Encode,
         Case::Decode,
         Case::DecodeChanged,
@@ -50,6 +53,7 @@ impl Case {
             Case::ToCoefficients => Job::TableToCoefficients,
             Case::ToTable => Job::CoefficientsToTable,
             Case::Evaluate => Job::Evaluate,
+            Case::Fill => Job::FillRoots,
             Case::Encode => Job::Encode,
             Case::Decode | Case::DecodeChanged => Job::Decode,
             Case::Fold => Job::Fold,
@@ -64,6 +68,7 @@ impl Case {
             Case::ToCoefficients => "table to coefficients",
             Case::ToTable => "coefficients to table",
             Case::Evaluate => "evaluate",
+            Case::Fill => "fill",
             Case::Encode => "encode",
             Case::Decode => "decode",
             Case::DecodeChanged => "decode, last word wrong",
@@ -91,6 +96,7 @@ impl Case {
     pub fn passes(self) -> bool {
         let one = [
             Case::Evaluate,
+            Case::Fill,
             Case::Fold,
             Case::Verify,
             Case::VerifyAnother,

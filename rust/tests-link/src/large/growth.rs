@@ -1,11 +1,14 @@
 //! How times grow from one depth to the next.
 
+use super::line::field_number;
 use super::{Case, Line};
 use std::fmt;
+use tvarchula_reference::Field;
 
 /// A case at two depths.
 #[derive(Clone, Copy, Debug)]
 pub struct Growth {
+    field: Field,
     case: Case,
     rate: Option<usize>,
     depths: [usize; 2],
@@ -33,7 +36,8 @@ impl fmt::Display for Growth {
         let law = if self.case.passes() { "n log n" } else { "n" };
         write!(
             f,
-            "{from:>5} to {to:>2} {rate:>4} {:<24} {:>8.2}   {law}: {:.2}",
+            "{:>6} {from:>5} to {to:>2} {rate:>4} {:<24} {:>8.2}   {law}: {:.2}",
+            field_number(self.field),
             self.case.name(),
             self.measured,
             self.due()
@@ -44,9 +48,12 @@ impl fmt::Display for Growth {
 /// The growth of every case and rate from each depth to the next one that was measured.
 pub fn growth(lines: &[Line]) -> Vec<Growth> {
     let next = |(place, line): (usize, &Line)| {
-        let same = |later: &&Line| (later.case, later.rate) == (line.case, line.rate);
+        let same = |later: &&Line| {
+            (later.field, later.case, later.rate) == (line.field, line.case, line.rate)
+        };
         let later = lines[place + 1..].iter().find(same)?;
         Some(Growth {
+            field: line.field,
             case: line.case,
             rate: line.rate,
             depths: [line.depth, later.depth],
@@ -66,6 +73,7 @@ mod tests {
     #[test]
     fn from_each_depth_to_the_next() {
         let line = |case, depth, millis| Line {
+            field: Field::First,
             case,
             depth,
             rate: Some(8),

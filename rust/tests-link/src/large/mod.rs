@@ -6,82 +6,32 @@
 //! what the other one wrote, and the reference's own. Decoding has the most, 260 MB lent: two of
 //! those, another result and work buffer, the residues of all that is read, the inverses, and the
 //! halves of the block that it encodes again; 1.1 GB in all, as was seen with the reference on both
-//! sides. The library allocates nothing.
+//! sides. The library allocates nothing. Filling is over the second field alone, at rates that can be
+//! filled.
 
 mod case;
 mod growth;
+mod line;
 pub mod stack;
 
 pub use case::Case;
 pub use growth::{growth, Growth};
+pub use line::{Line, Time, HEADS};
 
-use crate::call::{Call, Input, Job};
+use crate::call::{Call, Input};
 use crate::compare::{Comparison, Difference, Runner};
 use crate::damage::{moved, moved_back};
 use crate::good::{formed, most_queries, Shape};
+use crate::job::Job;
 use std::collections::BTreeMap;
-use std::fmt;
 use std::time::{Duration, Instant};
 use tvarchula_reference::sample::Rng;
-use tvarchula_reference::Answer;
+use tvarchula_reference::Field;
 
 /// A call that takes longer is timed once.
 const LONG: Duration = Duration::from_secs(2);
 /// Others are timed until this has passed, but three times at least and 101 times at most.
 const ENOUGH: Duration = Duration::from_millis(500);
-
-/// Of the times of one call. Where others share the machine the least one says more.
-#[derive(Clone, Copy, Debug)]
-pub struct Time {
-    /// The median.
-    pub median: Duration,
-    /// The least.
-    pub least: Duration,
-}
-
-/// What one call took.
-#[derive(Clone, Copy, Debug)]
-pub struct Line {
-    /// What was called.
-    pub case: Case,
-    /// At which depth; for folding the upper level.
-    pub depth: usize,
-    /// At which rate, where the job has one.
-    pub rate: Option<usize>,
-    /// What both sides answered.
-    pub answer: Answer,
-    /// The time of the left side's call.
-    pub time: Time,
-    /// Bytes of all lent slices.
-    pub lent: usize,
-    /// Bytes of stack that the left side's call touched beyond those of reading a clearance, where this
-    /// is known.
-    pub stack: Option<usize>,
-}
-
-/// The heads of the lines.
-pub const HEADS: &str =
-    "depth rate job                       answer  median ms  least ms  lent bytes  stack bytes";
-
-impl fmt::Display for Line {
-    fn fmt(&self, f: &mut fmt::Formatter) -> fmt::Result {
-        let known = |number: Option<usize>| number.map_or("-".to_string(), |n| n.to_string());
-        let answer = match self.answer {
-            Answer { number, first, .. } if number >= 20 => format!("{number} ({first})"),
-            Answer { number, .. } => number.to_string(),
-        };
-        let [median, least] = [self.time.median, self.time.least].map(|t| t.as_secs_f64() * 1e3);
-        write!(
-            f,
-            "{:>5} {:>4} {:<24} {answer:>7} {median:>10.3} {least:>9.3} {:>11} {:>12}",
-            self.depth,
-            known(self.rate),
-            self.case.name(),
-            self.lent,
-            known(self.stack),
-        )
-    }
-}
 
 /// Two implementations, and what the calls of the left one took.
 struct Large<'a> {
@@ -95,9 +45,10 @@ struct Large<'a> {
     tell: &'a mut dyn FnMut(&Line),
 }
 
-/// All cases at these depths and rates, told one by one. Stops at the first difference.
+/// All cases over a field at these depths and rates, told one by one. Stops at the first difference.
 pub fn run(
     [left, right]: [Runner; 2],
+    field: Field,
     depths: &[usize],
     rates: &[usize],
     tell: &mut dyn FnMut(&Line),
@@ -106,7 +57,7 @@ pub fn run(
         left,
         idle: idle(left),
         comparison: Comparison::new(left, right),
-        rng: Rng::new(400),
+        rng: Rng::new(field, 400),
         known: BTreeMap::new(),
         tell,
     };
@@ -133,6 +84,10 @@ impl Large<'_> {
     /// The jobs of a code: a message, its codeword, and its opening at one point.
     fn with_rate(&mut self, shape: Shape) -> Result<(), Difference> {
         self.known.clear();
+        if self.rng.field() == Field::Second && shape.sizes.rate.is_power_of_two() {
+            let call = formed(Job::FillRoots, shape, &mut self.rng);
+            self.one(Case::Fill, shape.sizes.depth, call)?;
+        }
         let encoded = self.chained(Case::Encode, shape)?;
         self.know(Input::Block, result(&encoded));
         drop(encoded);
@@ -149,7 +104,7 @@ impl Large<'_> {
         self.know(Input::Queries, queries);
         self.chained(Case::Verify, shape)?;
         let y = self.known[&Input::Y][0];
-        self.know(Input::Y, vec![moved(y)]);
+        self.know(Input::Y, vec![moved(self.rng.field(), y)]);
         self.chained(Case::VerifyAnother, shape)?;
         self.known.clear();
         Ok(())
@@ -160,10 +115,11 @@ impl Large<'_> {
     }
 
     /// Changes the last word of the block.
-    fn change_last_word(&mut self, change: fn(u32) -> u32) {
+    fn change_last_word(&mut self, change: fn(Field, u32) -> u32) {
+        let field = self.rng.field();
         let block = self.known.get_mut(&Input::Block).expect("encoded before");
         let last = block.last_mut().expect("a block is not empty");
-        *last = change(*last);
+        *last = change(field, *last);
     }
 
     /// A case whose call reads what is known, and whatever else it reads is known after it.
@@ -217,6 +173,7 @@ impl Large<'_> {
             left(&mut call);
         });
         let line = Line {
+            field: call.lent.field,
             case,
             depth,
             rate: call.lent.rate.map(|rate| rate as usize),
@@ -232,7 +189,11 @@ impl Large<'_> {
 
 /// The stack of reading one word: what it takes to call.
 fn idle(left: Runner) -> usize {
-    let mut call = formed(Job::ReadClearance, Shape::random(0, 2), &mut Rng::new(0));
+    let mut call = formed(
+        Job::ReadClearance,
+        Shape::random(0, 2),
+        &mut Rng::new(Field::First, 0),
+    );
     let touched = stack::touched(&mut || {
         left(&mut call);
     });
@@ -263,14 +224,16 @@ fn timed(mut time: impl FnMut() -> Duration) -> Time {
 mod tests {
     use super::*;
     use crate::run::any;
-    use tvarchula_reference::Reference;
+    use tvarchula_reference::{Answer, Reference};
 
     const REFERENCE: Runner = any::<Reference>;
 
     fn lines(left: Runner, depths: &[usize], rates: &[usize]) -> Result<Vec<Line>, Difference> {
         let mut lines = Vec::new();
         let mut tell = |line: &Line| lines.push(*line);
-        run([left, REFERENCE], depths, rates, &mut tell)?;
+        for field in Field::ALL {
+            run([left, REFERENCE], field, depths, rates, &mut tell)?;
+        }
         Ok(lines)
     }
 
@@ -278,15 +241,21 @@ mod tests {
     fn every_case_once_for_each_rate_that_it_has() {
         let lines = lines(REFERENCE, &[1, 5], &[2, 3]).expect("one implementation");
         for case in Case::ALL {
-            let of_case = lines.iter().filter(|line| line.case == case);
-            let found: Vec<_> = of_case.map(|line| (line.depth, line.rate)).collect();
-            let due = if case.job() < Job::Encode {
-                vec![(1, None), (5, None)]
-            } else {
-                let rates = [1, 5].map(|depth| [(depth, Some(2)), (depth, Some(3))]);
-                rates.concat()
-            };
-            assert_eq!(found, due, "{case:?}");
+            for field in Field::ALL {
+                let of_case = lines
+                    .iter()
+                    .filter(|line| (line.field, line.case) == (field, case));
+                let found: Vec<_> = of_case.map(|line| (line.depth, line.rate)).collect();
+                let due = match case.job() {
+                    Job::FillRoots if field == Field::First => vec![],
+                    Job::FillRoots => vec![(1, Some(2)), (5, Some(2))],
+                    job if job < Job::Encode => vec![(1, None), (5, None)],
+                    _ => [1, 5]
+                        .map(|depth| [(depth, Some(2)), (depth, Some(3))])
+                        .concat(),
+                };
+                assert_eq!(found, due, "{field:?} {case:?}");
+            }
         }
         // By the lengths of the order: g, T, T', message and block.
         let encode = lines.iter().find(|line| line.case == Case::Encode).unwrap();
@@ -321,7 +290,7 @@ mod tests {
     fn no_query_twice() {
         for (depth, rate, due) in [(0, 2, 0), (1, 2, 2), (5, 3, 48), (9, 16, 256)] {
             let sizes = Shape::random(depth, rate).sizes;
-            let queries = most_queries(&sizes, &mut Rng::new(1));
+            let queries = most_queries(&sizes, &mut Rng::new(Field::First, 1));
             let different: std::collections::BTreeSet<_> = queries.iter().collect();
             assert_eq!((queries.len(), different.len()), (due, due));
         }

@@ -1,7 +1,7 @@
 //! Readings, tables and evaluation.
 
-use super::{answer, Linked};
-use tvarchula_reference::{Answer, GroundJobs, Reading};
+use super::{answer, second, Linked};
+use tvarchula_reference::{Answer, Field, GroundJobs, Reading};
 use tvarchula_sys::{
     tv_coefficients_to_table, tv_evaluate, tv_read_clearance, tv_table_to_coefficients,
 };
@@ -9,8 +9,8 @@ use tvarchula_sys::{
 // SAFETY of all calls below: every pointer is that of a slice with its own length, alive during the
 // call, distinct from the others because the written ones are borrowed alone.
 impl GroundJobs for Linked {
-    fn read_clearance(word: u32) -> Reading {
-        let raw = unsafe { tv_read_clearance(word) };
+    fn read_clearance(field: Field, word: u32) -> Reading {
+        let raw = unsafe { tv_read_clearance(second(field), word) };
         Reading {
             answer: answer(raw.answer),
             kind: raw.kind,
@@ -18,9 +18,10 @@ impl GroundJobs for Linked {
         }
     }
 
-    fn table_to_coefficients(clearances: &[i32], message: &mut [u32]) -> Answer {
+    fn table_to_coefficients(field: Field, clearances: &[i32], message: &mut [u32]) -> Answer {
         let raw = unsafe {
             tv_table_to_coefficients(
+                second(field),
                 clearances.as_ptr(),
                 clearances.len(),
                 message.as_mut_ptr(),
@@ -30,9 +31,15 @@ impl GroundJobs for Linked {
         answer(raw)
     }
 
-    fn coefficients_to_table(message: &[u32], clearances: &mut [i32], work: &mut [u32]) -> Answer {
+    fn coefficients_to_table(
+        field: Field,
+        message: &[u32],
+        clearances: &mut [i32],
+        work: &mut [u32],
+    ) -> Answer {
         let raw = unsafe {
             tv_coefficients_to_table(
+                second(field),
                 message.as_ptr(),
                 message.len(),
                 clearances.as_mut_ptr(),
@@ -44,9 +51,10 @@ impl GroundJobs for Linked {
         answer(raw)
     }
 
-    fn evaluate(depth: u32, message: &[u32], z: &[u32], value: &mut u32) -> Answer {
+    fn evaluate(field: Field, depth: u32, message: &[u32], z: &[u32], value: &mut u32) -> Answer {
         let raw = unsafe {
             tv_evaluate(
+                second(field),
                 depth,
                 message.as_ptr(),
                 message.len(),

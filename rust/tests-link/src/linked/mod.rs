@@ -20,3 +20,11 @@ fn answer(raw: tvarchula_sys::tv_answer) -> tvarchula_reference::Answer {
         second: raw.second,
     }
 }
+
+/// The field as the functions take it.
+fn second(field: tvarchula_reference::Field) -> bool {
+    match field {
+        tvarchula_reference::Field::First => tvarchula_sys::TV_FIELD_1,
+        tvarchula_reference::Field::Second => tvarchula_sys::TV_FIELD_2,
+    }
+}

@@ -1,6 +1,6 @@
 //! Writing and verifying openings.
 
-use super::{answer, Linked};
+use super::{answer, second, Linked};
 use tvarchula_reference::{Answer, LentCode, OpeningJobs};
 use tvarchula_sys::{tv_verify_opening, tv_write_opening};
 
@@ -18,6 +18,7 @@ impl OpeningJobs for Linked {
     ) -> Answer {
         let raw = unsafe {
             tv_write_opening(
+                second(lent.field),
                 lent.depth,
                 lent.rate,
                 lent.g.as_ptr(),
@@ -53,6 +54,7 @@ impl OpeningJobs for Linked {
     ) -> Answer {
         let raw = unsafe {
             tv_verify_opening(
+                second(lent.field),
                 lent.depth,
                 lent.rate,
                 lent.g.as_ptr(),

@@ -1,19 +1,21 @@
 //! Encoding, decoding, folding.
 
-use super::{good, illegal_sizes, once_deep, pairs, places, random, singles, Swept};
-use crate::call::{Call, Input, Job};
+use super::{filled, good, illegal_sizes, once_deep, pairs, places, random, singles, Swept};
+use crate::call::{Call, Input};
 use crate::compare::Comparison;
 use crate::damage::{moved, moved_back};
 use crate::good::{self as calls, Shape};
+use crate::job::Job;
 use tvarchula_reference::sample::Rng;
+use tvarchula_reference::Field;
 
 const ALL: [Job; 3] = [Job::Encode, Job::Decode, Job::Fold];
 
 /// All calls of the code group to depth 12, and folds from the largest level and above.
-pub fn run(c: &mut Comparison, scale: usize) -> Swept {
-    let mut rng = Rng::new(200);
+pub fn run(c: &mut Comparison, field: Field, scale: usize) -> Swept {
+    let mut rng = Rng::new(field, 200);
+    // What is small comes first, of every job: a wrong job is found soon.
     for job in ALL {
-        every_size(c, job, &mut rng)?;
         for (depth, rate) in [(1, 2), (2, 3), (3, 16)] {
             singles(c, job, Shape::random(depth, rate), &mut rng)?;
             pairs(c, job, Shape::any(depth, rate, &mut rng), &mut rng)?;
@@ -21,19 +23,24 @@ pub fn run(c: &mut Comparison, scale: usize) -> Swept {
         if job != Job::Fold {
             pairs(c, job, Shape::any(0, 2, &mut rng), &mut rng)?;
         }
-        illegal_sizes(c, job, &mut rng)?;
         places::run(c, job, &mut rng)?;
-        random(c, job, 3_000 * scale, 12, &mut rng)?;
+        filled(c, job, &mut rng)?;
     }
     blocks(c, 2_000 * scale, &mut rng)?;
     challenges(c, 500 * scale, &mut rng)?;
-    fold_levels(c, &mut rng)
+    fold_levels(c, &mut rng)?;
+    for job in ALL {
+        illegal_sizes(c, job, &mut rng)?;
+        every_size(c, job, &mut rng)?;
+        random(c, job, 3_000 * scale, 11, &mut rng)?;
+    }
+    Ok(())
 }
 
 /// Depths 13 to 16 and rate 16 at the last, once each, a block of that size that is no codeword, and the
 /// last place of each input of that size.
-pub fn sixteen(c: &mut Comparison) -> Swept {
-    let mut rng = Rng::new(201);
+pub fn sixteen(c: &mut Comparison, field: Field) -> Swept {
+    let mut rng = Rng::new(field, 201);
     for job in ALL {
         for (depth, rate) in [(13, 5), (14, 3), (15, 2)] {
             good(c, job, Shape::any(depth, rate, &mut rng), &mut rng)?;
@@ -43,7 +50,7 @@ pub fn sixteen(c: &mut Comparison) -> Swept {
         if job == Job::Decode {
             let last = call.lent.words_mut(Input::Block).last_mut();
             let last = last.expect("a block is not empty");
-            *last = moved(*last);
+            *last = moved(field, *last);
             call.add_note("last word moved");
             c.check(&call)?;
         }
@@ -52,14 +59,16 @@ pub fn sixteen(c: &mut Comparison) -> Swept {
 }
 
 /// The deepest calls of every run.
-pub fn deep(c: &mut Comparison) -> Swept {
-    once_deep(c, &ALL, &mut Rng::new(202))
+pub fn deep(c: &mut Comparison, field: Field) -> Swept {
+    once_deep(c, &ALL, &mut Rng::new(field, 202))
 }
 
-/// All depths 0 to 12 (levels 1 to 12) with all rates, good and with some damage.
+/// All depths 0 to 12 (levels 1 to 12) with all rates, good and with some damage; of the largest blocks
+/// one field has those of even rates, the other those of odd ones.
 fn every_size(c: &mut Comparison, job: Job, rng: &mut Rng) -> Swept {
+    let parity = usize::from(rng.field() == Field::Second);
     for depth in usize::from(job == Job::Fold)..=12 {
-        for rate in 2..=16 {
+        for rate in (2..=16).filter(|rate| depth <= 10 || rate % 2 == parity) {
             good(c, job, Shape::any(depth, rate, rng), rng)?;
             if depth <= 2 {
                 singles(c, job, Shape::any(depth, rate, rng), rng)?;
@@ -71,6 +80,7 @@ fn every_size(c: &mut Comparison, job: Job, rng: &mut Rng) -> Swept {
 
 /// Blocks to decode: every single word of a codeword changed, and any blocks.
 fn blocks(c: &mut Comparison, count: usize, rng: &mut Rng) -> Swept {
+    let field = rng.field();
     for (depth, rate) in [
         (0, 2),
         (0, 16),
@@ -90,7 +100,7 @@ fn blocks(c: &mut Comparison, count: usize, rng: &mut Rng) -> Swept {
             let mut call = call.clone();
             call.add_note(&format!("word {j} moved"));
             let word = call.lent.words(Input::Block)[j];
-            for other in [moved(word), moved_back(word), 0, 1] {
+            for other in [moved(field, word), moved_back(field, word), 0, 1] {
                 call.lent.words_mut(Input::Block)[j] = other;
                 c.check(&call)?;
             }
@@ -107,13 +117,14 @@ fn blocks(c: &mut Comparison, count: usize, rng: &mut Rng) -> Swept {
 
 /// Folds by challenges that lie on a diagonal, or at the edges.
 fn challenges(c: &mut Comparison, count: usize, rng: &mut Rng) -> Swept {
+    let field = rng.field();
     for _ in 0..count {
         let (level, rate) = (1 + rng.below(4), 2 + rng.below(15));
         let mut call: Call = calls::call(Job::Fold, Shape::any(level, rate, rng), rng);
         let from = rng.pick(&[Input::T, Input::T2]);
         let words = call.lent.words(from);
         let on = words[rng.below(words.len())];
-        for challenge in [on, moved(on), 0, 1, 2_147_483_646] {
+        for challenge in [on, moved(field, on), 0, 1, field.modulus() - 1] {
             call.lent.words.insert(Input::Challenge, vec![challenge]);
             c.check(&call)?;
         }

@@ -2,18 +2,19 @@
 
 use super::{good, illegal_sizes, once_deep, pairs, places, random, singles, Swept};
 use crate::buffer::Buffer;
-use crate::call::{Call, Input, Job};
+use crate::call::{Call, Input};
 use crate::compare::Comparison;
 use crate::good::{formed, Shape};
+use crate::job::Job;
 use tvarchula_reference::sample::Rng;
-use tvarchula_reference::Residue;
+use tvarchula_reference::Field;
 
 const TABLES: [Job; 2] = [Job::TableToCoefficients, Job::CoefficientsToTable];
 const ALL: [Job; 3] = [TABLES[0], TABLES[1], Job::Evaluate];
 
 /// All calls of the ground group to depth 12, and table lengths to the largest and above.
-pub fn run(c: &mut Comparison, scale: usize) -> Swept {
-    let mut rng = Rng::new(100);
+pub fn run(c: &mut Comparison, field: Field, scale: usize) -> Swept {
+    let mut rng = Rng::new(field, 100);
     readings(c, 20_000 * scale, &mut rng)?;
     for job in ALL {
         for depth in 0..=12 {
@@ -35,8 +36,8 @@ pub fn run(c: &mut Comparison, scale: usize) -> Swept {
 }
 
 /// Depth 16, good and with every damage.
-pub fn sixteen(c: &mut Comparison) -> Swept {
-    let mut rng = Rng::new(101);
+pub fn sixteen(c: &mut Comparison, field: Field) -> Swept {
+    let mut rng = Rng::new(field, 101);
     for job in ALL {
         good(c, job, Shape::any(16, 2, &mut rng), &mut rng)?;
         singles(c, job, Shape::random(16, 2), &mut rng)?;
@@ -45,20 +46,22 @@ pub fn sixteen(c: &mut Comparison) -> Swept {
 }
 
 /// The deepest calls of every run.
-pub fn deep(c: &mut Comparison) -> Swept {
-    once_deep(c, &ALL, &mut Rng::new(102))
+pub fn deep(c: &mut Comparison, field: Field) -> Swept {
+    once_deep(c, &ALL, &mut Rng::new(field, 102))
 }
 
-/// Words around every edge, and any words.
+/// Words around every edge of both fields, and any words.
 fn readings(c: &mut Comparison, count: usize, rng: &mut Rng) -> Swept {
-    let p = Residue::MODULUS;
-    let edges = [0, p / 2, p / 2 + 1, p, 2 * p, u32::MAX];
+    let moduli = Field::ALL.map(Field::modulus);
+    let edges = moduli.map(|p| [p / 2, p / 2 + 1, p, 2 * p]).concat();
+    let edges = edges.into_iter().chain([0, u32::MAX]);
     let near =
-        |edge: u32| (0..200_u32).flat_map(move |k| [edge.wrapping_add(k), edge.wrapping_sub(k)]);
-    let words: Vec<u32> = edges.into_iter().flat_map(near).collect();
+        |edge: u32| (0..100_u32).flat_map(move |k| [edge.wrapping_add(k), edge.wrapping_sub(k)]);
+    let words: Vec<u32> = edges.flat_map(near).collect();
+    let field = rng.field();
     let any = (0..count).map(|_| rng.word());
     for word in words.into_iter().chain(any) {
-        let mut call = Call::new(Job::ReadClearance);
+        let mut call = Call::new(Job::ReadClearance, field);
         call.add_note(&format!("word {word}"));
         call.lent.words.insert(Input::Word, vec![word]);
         c.check(&call)?;

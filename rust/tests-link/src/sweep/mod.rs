@@ -1,17 +1,19 @@
-//! The calls that are compared, group by group.
+//! The calls that are compared, group by group, over one field each.
 
 pub mod code;
+pub mod fill;
 pub mod ground;
 pub mod opening;
 pub mod places;
 pub mod repeats;
 
-use crate::call::{Call, Job};
+use crate::call::Call;
 use crate::compare::{Comparison, Difference};
 use crate::damage::{self, Damage};
 use crate::good::{self, Shape};
+use crate::job::Job;
 use tvarchula_reference::sample::Rng;
-use tvarchula_reference::Answer;
+use tvarchula_reference::{Answer, Field};
 
 /// What a sweep returns: the first difference, if any.
 pub type Swept = Result<(), Difference>;
@@ -65,6 +67,20 @@ fn pairs(c: &mut Comparison, job: Job, shape: Shape, rng: &mut Rng) -> Swept {
     Ok(())
 }
 
+/// Good calls of a filled code, and every damage of one. The first field has none.
+fn filled(c: &mut Comparison, job: Job, rng: &mut Rng) -> Swept {
+    if rng.field() == Field::First {
+        return Ok(());
+    }
+    singles(c, job, Shape::filled(2, 4), rng)?;
+    for depth in 1..=8 {
+        for rate in [2, 4, 8, 16] {
+            good(c, job, Shape::filled(depth, rate), rng)?;
+        }
+    }
+    Ok(())
+}
+
 /// Good calls, half of them with one to four damages.
 fn random(c: &mut Comparison, job: Job, count: usize, deepest: usize, rng: &mut Rng) -> Swept {
     for _ in 0..count {
@@ -85,14 +101,21 @@ fn any_shape(job: Job, deepest: usize, rng: &mut Rng) -> Shape {
         deepest.min(4)
     };
     let depth = rng.below(bound + 1).max(usize::from(job == Job::Fold));
-    let rate = 2 + rng.below(15);
+    let rate = match job {
+        Job::FillRoots => 2 << rng.below(4),
+        _ => 2 + rng.below(15),
+    };
     Shape::any(depth, rate, rng)
 }
 
 /// Calls whose slices fit a depth or rate that is not legal: only the number itself is wrong. At depth 21
-/// the rate is small, since every slice is drawn.
+/// the rate is small, since every slice is drawn: the smallest, and one that is not legal either.
 fn illegal_sizes(c: &mut Comparison, job: Job, rng: &mut Rng) -> Swept {
-    for (depth, rate) in [(21, 2), (2, 0), (2, 1), (2, 17), (3, 20), (21, 1)] {
+    let high = match rng.field() {
+        Field::First => 2,
+        Field::Second => 1,
+    };
+    for (depth, rate) in [(21, high), (2, 0), (2, 1), (2, 17), (3, 20)] {
         let call = good::formed(job, Shape::any(depth, rate, rng), rng);
         c.check(&call)?;
     }

@@ -1,13 +1,17 @@
 //! Writing and verifying openings.
 
 use super::Swept;
-use super::{damaged, good, illegal_sizes, once_deep, pairs, places, random, repeats, singles};
-use crate::call::{Call, Input, Job};
+use super::{
+    damaged, filled, good, illegal_sizes, once_deep, pairs, places, random, repeats, singles,
+};
+use crate::call::{Call, Input};
 use crate::compare::Comparison;
 use crate::damage::{moved, moved_back, Damage, Place};
 use crate::forge;
 use crate::good::{self as calls, Shape};
+use crate::job::Job;
 use tvarchula_reference::sample::{Rng, STYLES};
+use tvarchula_reference::Field;
 
 const ALL: [Job; 2] = [Job::WriteOpening, Job::VerifyOpening];
 const SMALL: [(usize, usize); 8] = [
@@ -22,19 +26,19 @@ const SMALL: [(usize, usize); 8] = [
 ];
 
 /// All calls of the opening group to depth 10.
-pub fn run(c: &mut Comparison, scale: usize) -> Swept {
-    writing(c, scale)?;
-    verifying(c, scale)
+pub fn run(c: &mut Comparison, field: Field, scale: usize) -> Swept {
+    writing(c, field, scale)?;
+    verifying(c, field, scale)
 }
 
 /// Calls that write an opening.
-pub fn writing(c: &mut Comparison, scale: usize) -> Swept {
-    common(c, Job::WriteOpening, scale, &mut Rng::new(300))
+pub fn writing(c: &mut Comparison, field: Field, scale: usize) -> Swept {
+    common(c, Job::WriteOpening, scale, &mut Rng::new(field, 300))
 }
 
 /// Calls that verify an opening.
-pub fn verifying(c: &mut Comparison, scale: usize) -> Swept {
-    let mut rng = Rng::new(301);
+pub fn verifying(c: &mut Comparison, field: Field, scale: usize) -> Swept {
+    let mut rng = Rng::new(field, 301);
     for _ in 0..scale {
         every_word(c, &mut rng)?;
     }
@@ -42,7 +46,7 @@ pub fn verifying(c: &mut Comparison, scale: usize) -> Swept {
         deep_words(c, Shape::random(depth, rate), 200 * scale, &mut rng)?;
     }
     query_lists(c, &mut rng)?;
-    repeats::run(c)?;
+    repeats::run(c, field)?;
     several_words(c, 2_000 * scale, &mut rng)?;
     zero_eq(c, 300 * scale, &mut rng)?;
     forged(c, 1_500 * scale, &mut rng)?;
@@ -64,12 +68,13 @@ fn common(c: &mut Comparison, job: Job, scale: usize, rng: &mut Rng) -> Swept {
     }
     illegal_sizes(c, job, rng)?;
     places::run(c, job, rng)?;
+    filled(c, job, rng)?;
     random(c, job, 2_000 * scale, 10, rng)
 }
 
 /// Depths 11 to 16 and rate 16 at the last, once each, and wrong claims of that size.
-pub fn sixteen(c: &mut Comparison) -> Swept {
-    let mut rng = Rng::new(302);
+pub fn sixteen(c: &mut Comparison, field: Field) -> Swept {
+    let mut rng = Rng::new(field, 302);
     for (depth, rate) in [(11, 7), (12, 2), (13, 3), (14, 2), (15, 2)] {
         for job in ALL {
             good(c, job, Shape::any(depth, rate, &mut rng), &mut rng)?;
@@ -98,12 +103,13 @@ pub fn sixteen(c: &mut Comparison) -> Swept {
 }
 
 /// The deepest calls of every run.
-pub fn deep(c: &mut Comparison) -> Swept {
-    once_deep(c, &ALL, &mut Rng::new(303))
+pub fn deep(c: &mut Comparison, field: Field) -> Swept {
+    once_deep(c, &ALL, &mut Rng::new(field, 303))
 }
 
 /// At small sizes every word of every input moved either way, alone: the same verdict and place.
 fn every_word(c: &mut Comparison, rng: &mut Rng) -> Swept {
+    let field = rng.field();
     for (depth, rate) in SMALL {
         for style in STYLES {
             let shape = Shape {
@@ -119,7 +125,7 @@ fn every_word(c: &mut Comparison, rng: &mut Rng) -> Swept {
                 let word = call.lent.words(input)[j];
                 let others = match input {
                     Input::Queries => [word + 1, word.wrapping_sub(1)],
-                    _ => [moved(word), moved_back(word)],
+                    _ => [moved(field, word), moved_back(field, word)],
                 };
                 for other in others {
                     let mut call = call.clone();
@@ -148,7 +154,7 @@ fn deep_words(c: &mut Comparison, shape: Shape, count: usize, rng: &mut Rng) -> 
     for (input, j) in places {
         let mut call = honest.clone();
         let word = call.lent.words(input)[j];
-        call.lent.words_mut(input)[j] = moved(word);
+        call.lent.words_mut(input)[j] = moved(rng.field(), word);
         call.add_note(&format!("{input:?} {j} moved"));
         c.check(&call)?;
     }
@@ -172,7 +178,7 @@ fn several_words(c: &mut Comparison, count: usize, rng: &mut Rng) -> Swept {
                 (Input::Opening, from + rng.below(sizes.opening() - from))
             };
             let word = call.lent.words(input)[j];
-            call.lent.words_mut(input)[j] = moved(word);
+            call.lent.words_mut(input)[j] = moved(rng.field(), word);
             call.add_note(&format!("{input:?} {j} moved"));
         }
         c.check(&call)?;
@@ -207,7 +213,7 @@ fn query_lists(c: &mut Comparison, rng: &mut Rng) -> Swept {
             let mut call = honest.clone();
             let j = start + rng.below(length);
             let word = call.lent.words(input)[j];
-            call.lent.words_mut(input)[j] = moved(word);
+            call.lent.words_mut(input)[j] = moved(rng.field(), word);
             call.add_note(&format!("{input:?} {j} moved"));
             claims.push(call);
         }
@@ -259,10 +265,11 @@ fn zero_eq(c: &mut Comparison, count: usize, rng: &mut Rng) -> Swept {
         call.add_note("eq is 0");
         c.check(&call)?;
         let v = shape.sizes.final_value();
-        let moved_v = moved(call.lent.words(Input::Opening)[v]);
+        let moved_v = moved(rng.field(), call.lent.words(Input::Opening)[v]);
         call.lent.words_mut(Input::Opening)[v] = moved_v;
         c.check(&call)?;
-        let product = |g: u32| (u64::from(g) * u64::from(moved_v) % 2_147_483_647) as u32;
+        let p = u64::from(rng.field().modulus());
+        let product = |g: u32| (u64::from(g) * u64::from(moved_v) % p) as u32;
         let base: Vec<u32> = call
             .lent
             .words(Input::G)

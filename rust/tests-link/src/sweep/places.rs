@@ -2,14 +2,14 @@
 //! more at once. The least of them in the order of numbers, inputs and indices is due.
 
 use super::{good, Swept};
-use crate::call::{Call, Input, Job};
+use crate::call::{Call, Input};
 use crate::compare::Comparison;
+use crate::damage::refused_words;
 use crate::good::Shape;
+use crate::job::Job;
 use tvarchula_reference::sample::Rng;
 use tvarchula_reference::sizes::Sizes;
-use tvarchula_reference::{Answer, Residue};
-
-const P: u32 = Residue::MODULUS;
+use tvarchula_reference::Answer;
 
 /// Something that offends. Of two the lesser is named: inputs are declared in the order in which they
 /// are judged.
@@ -41,7 +41,7 @@ impl Spot {
         let lent = &mut call.lent;
         match self {
             Spot::Word(input, j) => {
-                lent.words_mut(input)[j] = rng.pick(&[P, P + 1, 2 * P, u32::MAX]);
+                lent.words_mut(input)[j] = rng.pick(&refused_words(lent.field));
             }
             Spot::Zero(j) => lent.words_mut(Input::G)[j] = 0,
             Spot::Pair(j) => lent.words_mut(Input::T2)[j] = lent.words(Input::T)[j],
@@ -137,11 +137,12 @@ fn spots(call: &Call, chosen: impl Fn(Input, usize) -> Vec<usize>) -> Vec<Spot> 
 mod tests {
     use super::*;
     use crate::good::formed;
+    use tvarchula_reference::Field;
 
     #[test]
     fn ends_and_middles() {
         let shape = Shape::random(3, 4);
-        let call = formed(Job::WriteOpening, shape, &mut Rng::new(1));
+        let call = formed(Job::WriteOpening, shape, &mut Rng::new(Field::First, 1));
         let spots = some(&call, &shape.sizes);
         let indices = |found: fn(Spot) -> Option<usize>| -> Vec<usize> {
             spots.iter().filter_map(|&spot| found(spot)).collect()

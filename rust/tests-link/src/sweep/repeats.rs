@@ -3,19 +3,21 @@
 //! with different places are not refused, so it is the repeat that is judged, and before every check.
 
 use super::{damaged, good, Swept};
-use crate::call::{Call, Input, Job};
+use crate::call::{Call, Input};
 use crate::compare::{Comparison, Difference};
 use crate::damage::{self, moved};
 use crate::good::Shape;
+use crate::job::Job;
 use tvarchula_reference::sample::Rng;
 use tvarchula_reference::sizes::MAX_QUERIES;
+use tvarchula_reference::Field;
 
 /// Up to this length a place repeats at every two positions.
 const SHORT: usize = 20;
 
 /// All of them.
-pub fn run(c: &mut Comparison) -> Swept {
-    let rng = &mut Rng::new(304);
+pub fn run(c: &mut Comparison, field: Field) -> Swept {
+    let rng = &mut Rng::new(field, 304);
     beside_damages(c, rng)?;
     short(c, rng)?;
     long(c, rng)?;
@@ -63,7 +65,7 @@ impl Claims {
         calls.extend(wrong.map(|(input, j)| {
             let mut call = honest.clone();
             let word = &mut call.lent.words_mut(input)[j];
-            *word = moved(*word);
+            *word = moved(honest.lent.field, *word);
             call.add_note(&format!("{input:?} {j} moved"));
             call
         }));

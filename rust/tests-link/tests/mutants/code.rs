@@ -1,7 +1,8 @@
 //! Wrong encoders, decoders and folds.
 
 use crate::{
-    afterwards, all_found, asked, has_large_word, on_changed, prefers, reduce_words, Sweep,
+    afterwards, all_found, asked, has_large_word, of_its_field, on_changed, prefers, reduce_words,
+    Sweep,
 };
 use tvarchula_compare::{run, sweep, Call, Input, Job, Runner};
 use tvarchula_reference::{Answer, Reference, Residue};
@@ -34,8 +35,9 @@ fn encodes_with_diagonals_swapped(call: &mut Call) -> Answer {
 /// Takes -T for T', which is only a special case: in legal calls, and where T has no zero.
 fn ignores_t2(call: &mut Call, job: Job) -> Answer {
     let other = |call: &mut Call| {
+        let p = call.lent.field.modulus();
         let t = call.lent.words(Input::T).iter();
-        let negated = t.map(|&t| (Residue::MODULUS - t) % Residue::MODULUS);
+        let negated = t.map(|&t| (p - t) % p);
         let negated = negated.collect();
         call.lent.words.insert(Input::T2, negated);
     };
@@ -63,13 +65,13 @@ fn writes_no_fold(call: &mut Call) -> Answer {
 }
 
 /// Puts the last word right before decoding, where that is easy to see.
-fn decodes_without_the_last_word(call: &mut Call) -> Answer {
+fn decodes_without_the_last_word<const P: u32>(call: &mut Call) -> Answer {
     on_changed(call, REFERENCE, |call| {
         let well = call.job == Job::Decode && call.lent.depth == Some(0);
         if well && asked(call, REFERENCE).number == 8 {
             let residue = |input, j: usize| {
                 let words: &[u32] = call.lent.words(input);
-                Residue::new(words[j]).unwrap()
+                Residue::<P>::new(words[j]).unwrap()
             };
             let last = call.lent.words(Input::Block).len() - 1;
             let m = residue(Input::Block, 0) * residue(Input::G, 0).inverse().unwrap();
@@ -174,8 +176,9 @@ fn takes_depth_21(call: &mut Call) -> Answer {
 
 fn refuses_words_of_p_minus_1(call: &mut Call) -> Answer {
     answers_instead(call, 4, |call| {
+        let last = call.lent.field.modulus() - 1;
         let mut words = call.lent.words.values().flatten();
-        words.any(|&word| word == Residue::MODULUS - 1)
+        words.any(|&word| word == last)
     })
 }
 
@@ -189,9 +192,10 @@ fn reduces_words(call: &mut Call) -> Answer {
 }
 
 fn reduces_the_challenge(call: &mut Call) -> Answer {
+    let p = call.lent.field.modulus();
     on_changed(call, REFERENCE, |call| {
         if let Some(challenge) = call.lent.words.get_mut(&Input::Challenge) {
-            challenge[0] %= Residue::MODULUS;
+            challenge[0] %= p;
         }
     })
 }
@@ -221,7 +225,7 @@ fn code() {
         ("writes no fold", writes_no_fold),
         (
             "decodes without the last word",
-            decodes_without_the_last_word,
+            of_its_field!(decodes_without_the_last_word),
         ),
         ("leaves work after 8", leaves_work_after_8),
         ("leaves work after success", leaves_work_after_success),
@@ -248,6 +252,9 @@ fn code() {
         }),
         ("refuses all", |_| Answer::plain(1)),
     ];
-    let sweeps: [Sweep; 2] = [|c| sweep::code::run(c, 1), sweep::code::sixteen];
+    let sweeps: [Sweep; 2] = [
+        |c, field| sweep::code::run(c, field, 1),
+        sweep::code::sixteen,
+    ];
     all_found(REFERENCE, &mutants, &sweeps);
 }

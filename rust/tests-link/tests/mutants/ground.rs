@@ -4,10 +4,9 @@ use crate::{afterwards, all_found, asked, bits_reversed, has_large_word, on_chan
 use crate::{reduce_words, Sweep};
 use tvarchula_compare::{run, sweep, Call, Input, Job, Runner};
 use tvarchula_reference::table::coefficients_by_variables;
-use tvarchula_reference::{Answer, Reference, Residue};
+use tvarchula_reference::{over, Answer, Reference, Residue};
 
 const REFERENCE: Runner = run::ground::<Reference>;
-const MAX: i32 = 1_073_741_823;
 
 fn reading(call: &mut Call, word: u32, as_if: u32) -> Answer {
     if call.job == Job::ReadClearance && call.lent.single(Input::Word) == word {
@@ -18,8 +17,16 @@ fn reading(call: &mut Call, word: u32, as_if: u32) -> Answer {
     REFERENCE(call)
 }
 
+fn p(call: &Call) -> u32 {
+    call.lent.field.modulus()
+}
+
+fn max(call: &Call) -> i32 {
+    call.lent.field.max_clearance()
+}
+
 fn reads_p_as_zero(call: &mut Call) -> Answer {
-    reading(call, Residue::MODULUS, 0)
+    reading(call, p(call), 0)
 }
 
 fn reads_as(call: &mut Call, word: u32, kind: u32, amount: u32) -> Answer {
@@ -43,15 +50,16 @@ fn reads_one_as_contact(call: &mut Call) -> Answer {
 }
 
 fn reads_minus_one_as_contact(call: &mut Call) -> Answer {
-    reads_as(call, Residue::MODULUS - 1, 3, 0)
+    reads_as(call, p(call) - 1, 3, 0)
 }
 
 fn reads_the_half_as_free(call: &mut Call) -> Answer {
-    reads_as(call, 1_073_741_824, 1, 1_073_741_824)
+    let half = p(call) / 2 + 1;
+    reads_as(call, half, 1, half)
 }
 
 fn reads_p_as_contact_too(call: &mut Call) -> Answer {
-    reads_as(call, Residue::MODULUS, 3, 0)
+    reads_as(call, p(call), 3, 0)
 }
 
 fn changes_clearances(call: &mut Call, from: i32, to: i32) -> Answer {
@@ -62,15 +70,15 @@ fn changes_clearances(call: &mut Call, from: i32, to: i32) -> Answer {
 }
 
 fn takes_a_clearance_too_large(call: &mut Call) -> Answer {
-    changes_clearances(call, MAX + 1, -MAX)
+    changes_clearances(call, max(call) + 1, -max(call))
 }
 
 fn takes_a_clearance_too_small(call: &mut Call) -> Answer {
-    changes_clearances(call, -MAX - 1, MAX)
+    changes_clearances(call, -max(call) - 1, max(call))
 }
 
 fn refuses_the_largest_clearance(call: &mut Call) -> Answer {
-    changes_clearances(call, MAX, MAX + 1)
+    changes_clearances(call, max(call), max(call) + 1)
 }
 
 fn reverses_the_variables_of_a_table(call: &mut Call) -> Answer {
@@ -126,9 +134,11 @@ fn evaluates_table_values(call: &mut Call) -> Answer {
     if call.job == Job::Evaluate && asked(call, REFERENCE) == Answer::DONE {
         return on_changed(call, REFERENCE, |call| {
             let words = call.lent.words(Input::Message).iter();
-            let table: Vec<_> = words.map(|&w| Residue::new(w).unwrap()).collect();
-            let message = coefficients_by_variables(&table);
-            let message = message.iter().map(|word| word.word()).collect();
+            let message = over!(call.lent.field, P => {
+                let table: Vec<_> = words.map(|&w| Residue::<P>::new(w).unwrap()).collect();
+                let message = coefficients_by_variables(&table);
+                message.iter().map(|word| word.word()).collect()
+            });
             call.lent.words.insert(Input::Message, message);
         });
     }
@@ -205,6 +215,9 @@ fn ground() {
         ("4 before 3", judges_words_before_lengths),
         ("3 for a wrong depth", judges_lengths_before_the_depth),
     ];
-    let sweeps: [Sweep; 2] = [|c| sweep::ground::run(c, 1), sweep::ground::sixteen];
+    let sweeps: [Sweep; 2] = [
+        |c, field| sweep::ground::run(c, field, 1),
+        sweep::ground::sixteen,
+    ];
     all_found(REFERENCE, &mutants, &sweeps);
 }

@@ -3,38 +3,60 @@
 //! Each mutant is the reference with one mistake, most of them mistakes that the order warns of.
 
 mod code;
+mod field;
+mod fill;
 mod ground;
 mod opening;
 mod places;
+mod queries;
 mod repeats;
 mod verifier;
 
 use std::io::Write;
 use tvarchula_compare::sweep::Swept;
 use tvarchula_compare::{Call, Comparison, Input, Runner};
-use tvarchula_reference::{Answer, Residue};
+use tvarchula_reference::{Answer, Field};
 
-type Sweep = fn(&mut Comparison) -> Swept;
+type Sweep = fn(&mut Comparison, Field) -> Swept;
 
-/// Shows that every mutant is found, and prints what found it.
+/// A wrong job that is over a modulus, as one over the field of each call.
+#[macro_export]
+macro_rules! of_its_field {
+    ($job:ident) => {
+        |call| tvarchula_reference::over!(call.lent.field, P => $job::<P>(call))
+    };
+}
+
+/// Shows that every mutant is found in each field, and prints what found it.
 fn all_found<S>(reference: Runner, mutants: &[(&str, Runner)], sweeps: &[S])
 where
-    S: Fn(&mut Comparison) -> Swept,
+    S: Fn(&mut Comparison, Field) -> Swept,
+{
+    for field in Field::ALL {
+        found_over(field, reference, mutants, sweeps);
+    }
+}
+
+/// Shows that every mutant is found in the sweeps of a field.
+fn found_over<S>(field: Field, reference: Runner, mutants: &[(&str, Runner)], sweeps: &[S])
+where
+    S: Fn(&mut Comparison, Field) -> Swept,
 {
     let mut unseen = Vec::new();
     for &(name, mutant) in mutants {
         let mut comparison = Comparison::new(mutant, reference);
-        let swept = sweeps.iter().try_for_each(|sweep| sweep(&mut comparison));
+        let mut sweeps = sweeps.iter();
+        let swept = sweeps.try_for_each(|sweep| sweep(&mut comparison, field));
         let shown = match swept {
             Ok(()) => {
                 unseen.push(name);
-                format!("NOT FOUND: {name}\n")
+                format!("NOT FOUND: {name}, {field:?} field\n")
             }
             Err(difference) => {
                 let calls = comparison.tally.total() + 1;
                 let Call { job, note, .. } = &*difference.call;
                 let what = &difference.what;
-                format!("found: {name}: call {calls}, {job:?} ({note}): {what}\n")
+                format!("found: {name}: {field:?} field, call {calls}, {job:?} ({note}): {what}\n")
             }
         };
         std::io::stderr()
@@ -90,20 +112,22 @@ fn prefers(
 
 /// A word of p or more is read.
 fn has_large_word(call: &Call) -> bool {
+    let p = call.lent.field.modulus();
     let inputs = call.lent.words.iter();
     let mut judged = inputs.filter(|(&input, _)| input != Input::Queries);
-    judged.any(|(_, words)| words.iter().any(|&word| word >= Residue::MODULUS))
+    judged.any(|(_, words)| words.iter().any(|&word| word >= p))
 }
 
 /// Reduces every word instead of refusing it.
 fn reduce_words(call: &mut Call) {
+    let p = call.lent.field.modulus();
     for (_, words) in call
         .lent
         .words
         .iter_mut()
         .filter(|(&i, _)| i != Input::Queries)
     {
-        words.iter_mut().for_each(|word| *word %= Residue::MODULUS);
+        words.iter_mut().for_each(|word| *word %= p);
     }
 }
 

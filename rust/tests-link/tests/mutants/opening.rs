@@ -138,6 +138,6 @@ fn writers() {
         ("4 before 3", judges_words_before_lengths),
         ("writes after 5", writes_after_a_refusal),
     ];
-    let sweeps: [Sweep; 1] = [|c| sweep::opening::writing(c, 1)];
+    let sweeps: [Sweep; 1] = [|c, field| sweep::opening::writing(c, field, 1)];
     all_found(REFERENCE, &mutants, &sweeps);
 }

@@ -4,7 +4,7 @@ use crate::all_found;
 use tvarchula_compare::{run, sweep, Call, Comparison, Input, Job, Runner};
 use tvarchula_reference::sample::Rng;
 use tvarchula_reference::sizes::Sizes;
-use tvarchula_reference::{Answer, Reference, Residue};
+use tvarchula_reference::{Answer, Field, Reference};
 
 const REFERENCE: Runner = run::any::<Reference>;
 
@@ -41,20 +41,22 @@ fn words(call: &Call, number: u32) -> &[u32] {
     found.map_or(&[], |(_, words)| words)
 }
 
-fn is_high(word: &u32) -> bool {
-    *word >= Residue::MODULUS
+/// Which words of a call are high.
+fn is_high(call: &Call) -> impl Fn(&u32) -> bool {
+    let p = call.lent.field.modulus();
+    move |word| *word >= p
 }
 
 fn names_the_last_word(call: &mut Call) -> Answer {
     renames(call, &[4], |call, answer| {
-        let last = words(call, answer.second).iter().rposition(is_high);
+        let last = words(call, answer.second).iter().rposition(is_high(call));
         answer.first = last.expect("the named one") as u32;
     })
 }
 
 /// Names the first word of another input where that has one.
 fn renames_to(call: &Call, answer: &mut Answer, input: u32) {
-    if let Some(index) = words(call, input).iter().position(is_high) {
+    if let Some(index) = words(call, input).iter().position(is_high(call)) {
         (answer.first, answer.second) = (index as u32, input);
     }
 }
@@ -233,7 +235,8 @@ fn places() {
     for &job in ALL {
         let wrong = mutants.iter().filter(|(_, _, jobs)| jobs.contains(&job));
         let wrong: Vec<_> = wrong.map(|&(name, mutant, _)| (name, mutant)).collect();
-        let sweep = |c: &mut Comparison| sweep::places::run(c, job, &mut Rng::new(1));
+        let sweep =
+            |c: &mut Comparison, field: Field| sweep::places::run(c, job, &mut Rng::new(field, 1));
         all_found(REFERENCE, &wrong, &[sweep]);
     }
 }

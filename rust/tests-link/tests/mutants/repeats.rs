@@ -3,7 +3,7 @@
 use crate::verifier::{judged, with_queries, REFERENCE};
 use crate::{all_found, asked, prefers, Sweep};
 use tvarchula_compare::{sweep, Call, Input, Job, Runner};
-use tvarchula_reference::Answer;
+use tvarchula_reference::{over, Answer};
 
 fn queries(call: &Call) -> &[u32] {
     call.lent.words(Input::Queries)
@@ -23,8 +23,11 @@ fn unrefused(call: &Call) -> Option<Answer> {
     let list: Vec<usize> = queries(call).iter().map(|&place| place as usize).collect();
     let mut first = call.clone();
     first.lent.words_mut(Input::Queries).truncate(1);
-    let (code, claim) = judged(&first).expect("one query repeats none");
-    Some(with_queries(&code, &claim, &list).into())
+    let verdict = over!(call.lent.field, P => {
+        let (code, claim) = judged::<P>(&first).expect("one query repeats none");
+        with_queries(&code, &claim, &list)
+    });
+    Some(verdict.into())
 }
 
 /// A verifier that refuses with 11 by another test of the list.

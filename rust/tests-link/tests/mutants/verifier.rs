@@ -1,6 +1,6 @@
 //! Wrong verifiers.
 
-use crate::{all_found, asked, has_large_word, on_changed, prefers, reduce_words, Sweep};
+use crate::{all_found, of_its_field, on_changed, reduce_words, Sweep};
 use tvarchula_compare::{run, sweep, Call, Input, Job, Runner};
 use tvarchula_reference::code::Code;
 use tvarchula_reference::fold::line;
@@ -11,7 +11,7 @@ use tvarchula_reference::{Answer, Reference, Refusal, Residue};
 pub const REFERENCE: Runner = run::opening::<Reference>;
 
 /// What a call of verifying lends, if it is well formed.
-pub fn judged(call: &Call) -> Result<(Code, Claim), Refusal> {
+pub fn judged<const P: u32>(call: &Call) -> Result<(Code<P>, Claim<P>), Refusal> {
     let words = |input| call.lent.words(input);
     judge_claim(
         call.lent.code(),
@@ -25,7 +25,10 @@ pub fn judged(call: &Call) -> Result<(Code, Claim), Refusal> {
 }
 
 /// A verifier that gives another verdict on a well-formed claim.
-fn another(call: &mut Call, verdict: impl Fn(&Code, &Claim) -> Verdict) -> Answer {
+fn another<const P: u32>(
+    call: &mut Call,
+    verdict: impl Fn(&Code<P>, &Claim<P>) -> Verdict,
+) -> Answer {
     if call.job != Job::VerifyOpening {
         return REFERENCE(call);
     }
@@ -36,14 +39,14 @@ fn another(call: &mut Call, verdict: impl Fn(&Code, &Claim) -> Verdict) -> Answe
 }
 
 /// The verdict with only these queries.
-pub fn with_queries(code: &Code, claim: &Claim, queries: &[usize]) -> Verdict {
+pub fn with_queries<const P: u32>(code: &Code<P>, claim: &Claim<P>, queries: &[usize]) -> Verdict {
     let mut claim = claim.clone();
     claim.queries = queries.to_vec();
     claim.verdict(code)
 }
 
 /// The verdict of each query alone, if it is a failed fold: its position and level.
-fn wrong_folds(code: &Code, claim: &Claim) -> Vec<(usize, usize)> {
+fn wrong_folds<const P: u32>(code: &Code<P>, claim: &Claim<P>) -> Vec<(usize, usize)> {
     let queries = claim.queries.iter().enumerate();
     let alone = |(position, &query)| match with_queries(code, claim, &[query]) {
         Verdict::Fold(_, level) => Some((position, level)),
@@ -52,23 +55,23 @@ fn wrong_folds(code: &Code, claim: &Claim) -> Vec<(usize, usize)> {
     queries.filter_map(alone).collect()
 }
 
-fn checks_only_the_first_query(call: &mut Call) -> Answer {
-    another(call, |code, claim| {
+fn checks_only_the_first_query<const P: u32>(call: &mut Call) -> Answer {
+    another::<P>(call, |code, claim| {
         let first = claim.queries.len().min(1);
         with_queries(code, claim, &claim.queries[..first])
     })
 }
 
-fn checks_no_last_query(call: &mut Call) -> Answer {
-    another(call, |code, claim| {
+fn checks_no_last_query<const P: u32>(call: &mut Call) -> Answer {
+    another::<P>(call, |code, claim| {
         let kept = claim.queries.len().saturating_sub(1).max(1);
         let kept = kept.min(claim.queries.len());
         with_queries(code, claim, &claim.queries[..kept])
     })
 }
 
-fn checks_only_the_first_level(call: &mut Call) -> Answer {
-    another(call, |code, claim| match claim.verdict(code) {
+fn checks_only_the_first_level<const P: u32>(call: &mut Call) -> Answer {
+    another::<P>(call, |code, claim| match claim.verdict(code) {
         Verdict::Fold(..) => {
             let wrong = wrong_folds(code, claim);
             let top = wrong
@@ -81,8 +84,8 @@ fn checks_only_the_first_level(call: &mut Call) -> Answer {
 }
 
 /// Goes through the levels and there through the queries: another first failure.
-fn checks_level_by_level(call: &mut Call) -> Answer {
-    another(call, |code, claim| match claim.verdict(code) {
+fn checks_level_by_level<const P: u32>(call: &mut Call) -> Answer {
+    another::<P>(call, |code, claim| match claim.verdict(code) {
         Verdict::Fold(..) => {
             let wrong = wrong_folds(code, claim);
             let top = wrong
@@ -99,8 +102,8 @@ fn checks_level_by_level(call: &mut Call) -> Answer {
 
 /// Steps by > where >= is due. A place outside the block is taken modulo its length, so that this
 /// mutant does not simply crash.
-fn steps_by_greater(call: &mut Call) -> Answer {
-    another(call, |code, claim| {
+fn steps_by_greater<const P: u32>(call: &mut Call) -> Answer {
+    another::<P>(call, |code, claim| {
         match claim.verdict(code) {
             Verdict::Accepted | Verdict::Fold(..) => (),
             earlier => return earlier,
@@ -131,73 +134,73 @@ fn steps_by_greater(call: &mut Call) -> Answer {
     })
 }
 
-fn eq_is_zero(claim: &Claim) -> bool {
+fn eq_is_zero<const P: u32>(claim: &Claim<P>) -> bool {
     eq(&claim.z, &claim.r) == Residue::ZERO
 }
 
-fn divides_by_eq_and_fails(call: &mut Call) -> Answer {
-    another(call, |code, claim| match claim.verdict(code) {
+fn divides_by_eq_and_fails<const P: u32>(call: &mut Call) -> Answer {
+    another::<P>(call, |code, claim| match claim.verdict(code) {
         Verdict::Sum(i) => Verdict::Sum(i),
         _ if eq_is_zero(claim) => Verdict::Final,
         verdict => verdict,
     })
 }
 
-fn divides_by_eq_and_accepts(call: &mut Call) -> Answer {
-    another(call, |code, claim| match claim.verdict(code) {
+fn divides_by_eq_and_accepts<const P: u32>(call: &mut Call) -> Answer {
+    another::<P>(call, |code, claim| match claim.verdict(code) {
         Verdict::Base(_) | Verdict::Fold(..) if eq_is_zero(claim) => Verdict::Accepted,
         verdict => verdict,
     })
 }
 
-fn skips(call: &mut Call, skipped: impl Fn(Verdict, &Code) -> bool) -> Answer {
-    another(call, |code, claim| match claim.verdict(code) {
+fn skips<const P: u32>(call: &mut Call, skipped: impl Fn(Verdict, &Code<P>) -> bool) -> Answer {
+    another::<P>(call, |code, claim| match claim.verdict(code) {
         verdict if skipped(verdict, code) => Verdict::Accepted,
         verdict => verdict,
     })
 }
 
-fn checks_only_the_first_sum(call: &mut Call) -> Answer {
-    skips(
+fn checks_only_the_first_sum<const P: u32>(call: &mut Call) -> Answer {
+    skips::<P>(
         call,
         |verdict, code| matches!(verdict, Verdict::Sum(i) if i < code.sizes.depth),
     )
 }
 
-fn checks_only_the_first_base_word(call: &mut Call) -> Answer {
-    skips(
+fn checks_only_the_first_base_word<const P: u32>(call: &mut Call) -> Answer {
+    skips::<P>(
         call,
         |verdict, _| matches!(verdict, Verdict::Base(j) if j > 0),
     )
 }
 
-fn checks_no_final(call: &mut Call) -> Answer {
-    skips(call, |verdict, _| verdict == Verdict::Final)
+fn checks_no_final<const P: u32>(call: &mut Call) -> Answer {
+    skips::<P>(call, |verdict, _| verdict == Verdict::Final)
 }
 
-fn names_the_upper_level(call: &mut Call) -> Answer {
-    another(call, |code, claim| match claim.verdict(code) {
+fn names_the_upper_level<const P: u32>(call: &mut Call) -> Answer {
+    another::<P>(call, |code, claim| match claim.verdict(code) {
         Verdict::Fold(position, level) => Verdict::Fold(position, level + 1),
         verdict => verdict,
     })
 }
 
-fn names_the_place(call: &mut Call) -> Answer {
-    another(call, |code, claim| match claim.verdict(code) {
+fn names_the_place<const P: u32>(call: &mut Call) -> Answer {
+    another::<P>(call, |code, claim| match claim.verdict(code) {
         Verdict::Fold(position, level) => Verdict::Fold(claim.queries[position], level),
         verdict => verdict,
     })
 }
 
-fn counts_rounds_from_the_start(call: &mut Call) -> Answer {
-    another(call, |code, claim| match claim.verdict(code) {
+fn counts_rounds_from_the_start<const P: u32>(call: &mut Call) -> Answer {
+    another::<P>(call, |code, claim| match claim.verdict(code) {
         Verdict::Sum(i) => Verdict::Sum(code.sizes.depth + 1 - i),
         verdict => verdict,
     })
 }
 
-fn names_the_last_base_word(call: &mut Call) -> Answer {
-    another(call, |code, claim| match claim.verdict(code) {
+fn names_the_last_base_word<const P: u32>(call: &mut Call) -> Answer {
+    another::<P>(call, |code, claim| match claim.verdict(code) {
         Verdict::Base(_) => {
             let v = claim.final_value(code);
             let block = claim.level_block(code, 0);
@@ -210,125 +213,74 @@ fn names_the_last_base_word(call: &mut Call) -> Answer {
     })
 }
 
-/// Takes queries that are refused, as if they were others.
-fn takes_queries(call: &mut Call, change: impl Fn(&mut Vec<u32>, u32)) -> Answer {
-    if call.job == Job::VerifyOpening && asked(call, REFERENCE).number == 7 {
-        return on_changed(call, REFERENCE, |call| {
-            let below = match call.lent.depth() {
-                0 => 0,
-                depth => call.lent.rate() << (depth - 1),
-            };
-            change(call.lent.words_mut(Input::Queries), below);
-        });
-    }
-    REFERENCE(call)
-}
-
-fn takes_257_queries(call: &mut Call) -> Answer {
-    takes_queries(call, |queries, _| {
-        if queries.len() == 257 {
-            queries.pop();
-        }
-    })
-}
-
-fn takes_no_queries(call: &mut Call) -> Answer {
-    takes_queries(call, |queries, below| {
-        if queries.is_empty() && below > 0 {
-            queries.push(0);
-        }
-    })
-}
-
-fn takes_queries_at_depth_0(call: &mut Call) -> Answer {
-    takes_queries(call, |queries, below| {
-        if below == 0 {
-            queries.clear();
-        }
-    })
-}
-
-fn takes_the_place_after_the_last(call: &mut Call) -> Answer {
-    takes_queries(call, |queries, below| {
-        queries
-            .iter_mut()
-            .filter(|q| **q == below && below > 0)
-            .for_each(|q| *q = 0);
-    })
-}
-
 fn reduces_words(call: &mut Call) -> Answer {
     on_changed(call, REFERENCE, reduce_words)
 }
 
 fn reduces_the_value(call: &mut Call) -> Answer {
+    let p = call.lent.field.modulus();
     on_changed(call, REFERENCE, |call| {
         if let Some(y) = call.lent.words.get_mut(&Input::Y) {
-            y[0] %= Residue::MODULUS;
+            y[0] %= p;
         }
-    })
-}
-
-fn judges_query_words_by_4(call: &mut Call) -> Answer {
-    prefers(call, REFERENCE, 7, 4, |call| {
-        call.lent
-            .words(Input::Queries)
-            .iter()
-            .any(|&word| word >= Residue::MODULUS)
-    })
-}
-
-fn judges_query_counts_by_3(call: &mut Call) -> Answer {
-    prefers(call, REFERENCE, 7, 3, |call| {
-        call.lent.words(Input::Queries).len() > 256
-    })
-}
-
-fn judges_queries_before_words(call: &mut Call) -> Answer {
-    prefers(call, REFERENCE, 4, 7, |call| {
-        let large = call.lent.words(Input::Queries).contains(&u32::MAX);
-        large && has_large_word(call)
     })
 }
 
 #[test]
 fn verifiers() {
-    let mutants: [(&str, Runner); 25] = [
-        ("checks only the first query", checks_only_the_first_query),
-        ("checks no last query", checks_no_last_query),
-        ("checks only the first level", checks_only_the_first_level),
-        ("checks level by level", checks_level_by_level),
-        ("steps by >", steps_by_greater),
-        ("divides by eq and fails", divides_by_eq_and_fails),
-        ("divides by eq and accepts", divides_by_eq_and_accepts),
-        ("checks only the first sum", checks_only_the_first_sum),
+    let mutants: [(&str, Runner); 18] = [
+        (
+            "checks only the first query",
+            of_its_field!(checks_only_the_first_query),
+        ),
+        ("checks no last query", of_its_field!(checks_no_last_query)),
+        (
+            "checks only the first level",
+            of_its_field!(checks_only_the_first_level),
+        ),
+        (
+            "checks level by level",
+            of_its_field!(checks_level_by_level),
+        ),
+        ("steps by >", of_its_field!(steps_by_greater)),
+        (
+            "divides by eq and fails",
+            of_its_field!(divides_by_eq_and_fails),
+        ),
+        (
+            "divides by eq and accepts",
+            of_its_field!(divides_by_eq_and_accepts),
+        ),
+        (
+            "checks only the first sum",
+            of_its_field!(checks_only_the_first_sum),
+        ),
         (
             "checks only the first base word",
-            checks_only_the_first_base_word,
+            of_its_field!(checks_only_the_first_base_word),
         ),
-        ("checks no final", checks_no_final),
-        ("names the upper level", names_the_upper_level),
-        ("names the place", names_the_place),
-        ("counts rounds from the start", counts_rounds_from_the_start),
-        ("names the last base word", names_the_last_base_word),
-        ("takes 257 queries", takes_257_queries),
-        ("takes no queries", takes_no_queries),
-        ("takes queries at depth 0", takes_queries_at_depth_0),
+        ("checks no final", of_its_field!(checks_no_final)),
         (
-            "takes the place after the last",
-            takes_the_place_after_the_last,
+            "names the upper level",
+            of_its_field!(names_the_upper_level),
+        ),
+        ("names the place", of_its_field!(names_the_place)),
+        (
+            "counts rounds from the start",
+            of_its_field!(counts_rounds_from_the_start),
+        ),
+        (
+            "names the last base word",
+            of_its_field!(names_the_last_base_word),
         ),
         ("reduces words", reduces_words),
         ("reduces the value", reduces_the_value),
-        ("4 for a large query", judges_query_words_by_4),
-        ("3 for a long query list", judges_query_counts_by_3),
-        ("7 before 4", judges_queries_before_words),
         ("accepts all", |call| match REFERENCE(call) {
             answer if answer.number >= 20 => Answer::DONE,
             answer => answer,
         }),
         ("refuses all", |_| Answer::plain(1)),
     ];
-    let sweeps: [Sweep; 1] = [|c| sweep::opening::verifying(c, 1)];
+    let sweeps: [Sweep; 1] = [|c, field| sweep::opening::verifying(c, field, 1)];
     all_found(REFERENCE, &mutants, &sweeps);
 }

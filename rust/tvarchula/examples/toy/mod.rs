@@ -4,13 +4,14 @@
 //! the planner has sent what comes before it. A planner that foresees them can cheat. Row and
 //! diagonals may be foreseen, but the planner must not choose them.
 
-use tvarchula::{Code, MODULUS};
+use tvarchula::{Code, Field};
 
 /// A small seeded generator (splitmix64).
 pub struct Toy(pub u64);
 
-/// A row and two diagonals.
+/// A row and two diagonals of a field.
 pub struct Row {
+    field: Field,
     depth: u32,
     rate: u32,
     g: Vec<u32>,
@@ -21,7 +22,8 @@ pub struct Row {
 impl Row {
     /// The code, lent to a call.
     pub fn code(&self) -> Code<'_> {
-        Code::new(self.depth, self.rate, &self.g, &self.t, &self.t2)
+        let (depth, rate) = (self.depth, self.rate);
+        Code::new(self.field, depth, rate, &self.g, &self.t, &self.t2)
     }
 }
 
@@ -55,15 +57,17 @@ impl Toy {
     }
 
     /// Row and diagonals as in the paper: random words that are not 0, and T' = -T.
-    pub fn row(&mut self, depth: u32, rate: u32) -> Row {
+    pub fn row(&mut self, field: Field, depth: u32, rate: u32) -> Row {
+        let modulus = field.modulus();
         let mut non_zero = |len: usize| -> Vec<u32> {
-            let words = self.list(len, MODULUS - 1);
+            let words = self.list(len, modulus - 1);
             words.into_iter().map(|word| word + 1).collect()
         };
         let g = non_zero(rate as usize);
         let t = non_zero(tvarchula::diagonals_len(depth, rate));
-        let t2 = t.iter().map(|word| MODULUS - word).collect();
+        let t2 = t.iter().map(|word| modulus - word).collect();
         Row {
+            field,
             depth,
             rate,
             g,

@@ -1,9 +1,12 @@
 use mathlib.Core.Path.{sym, ap, _∙_}
 use Rattle.polynomial.specs.Evaluation.{evaluationOutcome as evaluated}
-use Rattle.tvarchula.specs.Replies.{reply, given}
+use Rattle.reply.specs.Replies.{reply, given}
 use borrow.Author.Needs.{needs}
 use Rattle.tvarchula.proofs.ground.tv_evaluate.Statement.{statement}
 use Rattle.tvarchula.proofs.ground.tv_evaluate.Tie as tie
+
+named-requires : tie.Need-named-requires
+named-requires c κs = search needs
 
 evaluate-requires : tie.Need-evaluate-requires
 evaluate-requires c κs = search needs
@@ -21,7 +24,7 @@ returns : tie.Need-returns
 returns c =
     let e = c .before .before .before .evaluate in
     let is = sym (c .before .e .given .1) in
-    record { job = e .result; answer = ap (λ x. reply (evaluated x)) is; result = e .ensures; single = ap (λ x. given (evaluated x) (c .before .before .before .before .before .before .args .value .now)) is }
+    record { job = e .result; answer = ap (λ x. reply (evaluated x)) is; result = rw (sym (c .before .before .before .before .named .ensures)) (e .ensures); single = ap (λ x. given (evaluated x) (c .before .before .before .before .before .before .before .args .value .now)) is }
 
 returns-2 : tie.Need-returns-2
 returns-2 c =
@@ -30,11 +33,11 @@ returns-2 c =
     record {
       job = e .result;
       answer = c .refused .ensures ∙ ap (λ x. reply (evaluated x)) is;
-      result = e .ensures;
-      single = ap (λ x. given (evaluated x) (c .before .before .before .before .before .before .before .args .value .now)) is;
+      result = rw (sym (c .before .before .before .before .before .named .ensures)) (e .ensures);
+      single = ap (λ x. given (evaluated x) (c .before .before .before .before .before .before .before .before .args .value .now)) is;
     }
 
 pub tv-evaluate-spec : {M : Type 1} → statement M
 tv-evaluate-spec =
     tie.close
-    (tie.spec evaluate-requires enum-known-e enum-known-e-2 refused-requires returns returns-2)
+    (tie.spec named-requires evaluate-requires enum-known-e enum-known-e-2 refused-requires returns returns-2)

@@ -1,9 +1,12 @@
 use mathlib.Core.Path.{sym, ap, _∙_}
-use Rattle.tvarchula.specs.Replies.{reply, given}
+use Rattle.reply.specs.Replies.{reply, given}
 use Rattle.open.specs.Writing.{writtenOutcome as wrote}
 use borrow.Author.Needs.{needs}
 use Rattle.tvarchula.proofs.opening.tv_write_opening.Statement.{statement}
 use Rattle.tvarchula.proofs.opening.tv_write_opening.Tie as tie
+
+named-requires : tie.Need-named-requires
+named-requires c κs = search needs
 
 write-opening-requires : tie.Need-write-opening-requires
 write-opening-requires c κs = search needs
@@ -30,8 +33,8 @@ returns c =
     record {
       job = w .result;
       answer = ap (λ x. reply (wrote x)) is;
-      result = w .ensures;
-      single = ap (λ x. given (wrote x) (c .before .before .before .before .before .before .before .before .before .before .before .before .before .before .before .before .before .before .args .value .now)) is;
+      result = rw (sym (c .before .before .before .before .before .before .before .before .named .ensures)) (w .ensures);
+      single = ap (λ x. given (wrote x) (c .before .before .before .before .before .before .before .before .before .before .before .before .before .before .before .before .before .before .before .args .value .now)) is;
     }
 
 same-length-3 : tie.Need-same-length-3
@@ -47,14 +50,15 @@ returns-2 c =
     record {
       job = w .result;
       answer = c .refused .ensures ∙ ap (λ x. reply (wrote x)) is;
-      result = w .ensures;
-      single = ap (λ x. given (wrote x) (c .before .before .before .before .before .before .before .before .before .before .before .before .before .before .before .before .before .before .before .args .value .now)) is;
+      result = rw (sym (c .before .before .before .before .before .before .before .before .before .named .ensures)) (w .ensures);
+      single = ap (λ x. given (wrote x) (c .before .before .before .before .before .before .before .before .before .before .before .before .before .before .before .before .before .before .before .before .args .value .now)) is;
     }
 
 pub tv-write-opening-spec : {M : Type 1} → statement M
 tv-write-opening-spec =
     tie.close
     (tie.spec
+    named-requires
     write-opening-requires
     enum-known-w
     enum-known-w-2

@@ -38,8 +38,8 @@ shared-slice-read-new-3 c = search needs
 new-requires-3 : tie.Need-new-requires-3
 new-requires-3 c κs = let s = c .before .before .before .before .before .before .before in s .pre .lower .low (s .args .u) (s .pre .place)
 
-on-line-requires : tie.Need-on-line-requires
-on-line-requires c κs =
+on-line-of-requires : tie.Need-on-line-of-requires
+on-line-of-requires c κs =
     let s = c .before .before .before .before .before .before .before .before in
     let a = s .args in
     line-points (chosen (a .field)) (a .a) (a .t) (a .t2) (a .u) (a .upper .now) (a .lower .now) (s .pre) _ _ _ (c .before .before .before .before .new .ensures) (c .before .before .new2 .ensures) (c .new3 .ensures)
@@ -48,7 +48,7 @@ returns : tie.Need-returns
 returns c =
     let s = c .before .before .before .before .before .before .before .before .before in
     let a = s .args in
-    c .on-line .ensures ∙ line-is (chosen (a .field)) (a .a) (a .t) (a .t2) (a .u) (a .upper .now) (a .lower .now) (s .pre) _ _ _ (c .before .before .before .before .before .new .ensures) (c .before .before .before .new2 .ensures) (c .before .new3 .ensures)
+    c .on-line-of .ensures ∙ line-is (chosen (a .field)) (a .a) (a .t) (a .t2) (a .u) (a .upper .now) (a .lower .now) (s .pre) _ _ _ (c .before .before .before .before .before .new .ensures) (c .before .before .before .new2 .ensures) (c .before .new3 .ensures)
 
 pub fold-at-spec : {M : Type 1} → statement M
 fold-at-spec =
@@ -64,5 +64,5 @@ fold-at-spec =
     mul-new-3
     shared-slice-read-new-3
     new-requires-3
-    on-line-requires
+    on-line-of-requires
     returns)

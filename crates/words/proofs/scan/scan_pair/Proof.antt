@@ -1,3 +1,4 @@
+use mathlib.Core.Path.{sym}
 use Rattle.residue.specs.Chosen.{chosen}
 use Rattle.words.specs.ScanLaws.{pair-scanned}
 use borrow.Author.Needs.{needs}
@@ -10,8 +11,8 @@ modulus-requires c κs = search needs
 shorter-requires : tie.Need-shorter-requires
 shorter-requires c κs = search needs
 
-scan-places-requires : tie.Need-scan-places-requires
-scan-places-requires c κs = search needs
+scan-known-requires : tie.Need-scan-known-requires
+scan-known-requires c κs = search needs
 
 mul-all-under : tie.Need-mul-all-under
 mul-all-under c = search needs
@@ -48,7 +49,7 @@ returns c =
     let m = c .before .before .before .before .before .before .before in
     let a = m .before .before .before .args in
     let n = c .before .before .before .before .before .before .shorter .ensures in
-    pair-scanned (chosen (a .field)) _ _ (a .s .now) (a .t .now) (m .modulus .ensures) (n .0) (n .1) (n .2) (c .before .before .before .before .before .scan-places .ensures) (c .before .before .before .all-under .ensures) (c .before .all-under2 .ensures)
+    pair-scanned (chosen (a .field)) _ _ (a .s .now) (a .t .now) (m .modulus .ensures) (n .0) (n .1) (n .2) (rw (sym (m .modulus .ensures)) at (c .before .before .before .before .before .scan-known .ensures)) (c .before .before .before .all-under .ensures) (c .before .all-under2 .ensures)
 
 pub scan-pair-spec : {M : Type 1} → statement M
 scan-pair-spec =
@@ -56,7 +57,7 @@ scan-pair-spec =
     (tie.spec
     modulus-requires
     shorter-requires
-    scan-places-requires
+    scan-known-requires
     mul-all-under
     sub-all-under
     part-all-under-start
