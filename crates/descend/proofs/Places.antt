@@ -58,10 +58,10 @@ module _ (𝓕 : PrimeField) where
 
       -- where the block of level i begins
       next : a + (n + n) ≡ blockAt (length g) 0 d i
-      next = omega (arith, start, twice, block-end c d (suc i) (𝓘 .level))
+      next = omega (arith, start, twice, block-end c 0 d (suc i) (𝓘 .level))
 
       pub end-within : a + 3 * n ≤ length o
-      end-within = omega (arith, next, p, 𝓘 .size, block-within c d i below)
+      end-within = omega (arith, next, p, 𝓘 .size, block-within c 0 d i below)
 
       level-is : (s : List ℕ) → take (off + n - off) (drop off s) ≡ diagonal (length g) s i
       unfolding diagonal

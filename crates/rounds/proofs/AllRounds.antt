@@ -173,11 +173,11 @@ module _ (𝓕 : PrimeField) where
       upper l =
           let b = blockAt (length g) 0 d (suc i) in
           let n = length g * 2 ^ suc i in
-          let long : length (take n (drop b o)) ≡ n = simp (length-take, length-drop) (omega (arith, block-within (length g) d (suc i) l, 𝓖 .size)) in
+          let long : length (take n (drop b o)) ≡ n = simp (length-take, length-drop) (omega (arith, block-within (length g) 0 d (suc i) l, 𝓖 .size)) in
           ext-getD 0 (take n (drop b o)) (toWords 𝓕 (encode F (lent 𝓕 g t t') (suc i) (left (suc i))))
           (long ∙ sym (length-coded (suc i) (omega arith) (left (suc i))))
           (λ k h. getD-take n (drop b o) k 0 (omega (arith, long)) ∙ getD-drop b o k 0
-          ∙ 𝓖 .blocks .at (b + k) (omega arith) (omega (arith, long, block-end (length g) d (suc i) l)) ∙ target-block (suc i) k l (omega (arith, long)))
+          ∙ 𝓖 .blocks .at (b + k) (omega arith) (omega (arith, long, block-end (length g) 0 d (suc i) l)) ∙ target-block (suc i) k l (omega (arith, long)))
           ∙ ap (λ M. toWords 𝓕 (encode F (lent 𝓕 g t t') (suc i) M)) (sym above-is)
 
       pub round-input : RoundInput 𝓕 d i w g t t' z r o s
@@ -247,7 +247,7 @@ module _ (𝓕 : PrimeField) where
             let l = below in
             let fits : a + length xs ≤ length o = omega (arith, 𝓖 .size) in
             let same : length o₁ ≡ length o = length-put a xs o fits in
-            let fits' : b + length block ≤ length o₁ = omega (arith, block-within (length g) d i below, length-block, 𝓖 .size) in
+            let fits' : b + length block ≤ length o₁ = omega (arith, block-within (length g) 0 d i below, length-block, 𝓖 .size) in
             record {
               level = omega arith;
               weight = 𝓡 .taken .weight ∙ ap word weight-next;
@@ -262,7 +262,7 @@ module _ (𝓕 : PrimeField) where
                   (agrees-more a xs o fits (3 * (d - i)) (omega arith) (𝓖 .rounds) (λ j q. sent-at j (omega arith))));
               blocks =
                   rw (𝓡 .opened)
-                  (agrees-more b block o₁ fits' (3 * d + 1 + length g * (2 ^ d - 2 ^ i)) (ap (λ e. b + e) length-block ∙ block-end (length g) d i below)
+                  (agrees-more b block o₁ fits' (3 * d + 1 + length g * (2 ^ d - 2 ^ i)) (ap (λ e. b + e) length-block ∙ block-end (length g) 0 d i below)
                   (agrees-above a xs o fits (omega arith) (𝓖 .blocks))
                   (λ j q. ap (λ M. getD M j 0) block-is ∙ sym (target-block i j below (omega (arith, length-block)))));
             }

@@ -45,7 +45,7 @@ module _ (𝓕 : PrimeField) where
   -- the block of level i, of k words at place a, whose message has n words
   module _ (d i : ℕ) (g t t' o s : List ℕ) (𝓑 : GiveBlockInput 𝓕 d i g t t' (length o) s) (n a k : ℕ) (p : n ≡ 2 ^ i) (q : a ≡ blockAt (length g) 0 d i) (e : k ≡ blockSize (length g) i) where
     pub end-within : a + k ≤ length o
-    end-within = omega (arith, q, 𝓑 .size, block-within (length g) d i (𝓑 .level))
+    end-within = omega (arith, q, 𝓑 .size, block-within (length g) 0 d i (𝓑 .level))
 
     pub encode-input : EncodeInput 𝓕 i g t t' (take n s) (length (take (a + k - a) (drop a o)))
     encode-input =

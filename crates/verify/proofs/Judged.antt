@@ -144,7 +144,7 @@ module _ (𝓕 : PrimeField) where
               claim = rw ev value-low;
               challenges = blocks .challenges;
               low = blocks .low;
-              long = omega (arith, blocks .opened, final-within (length g) d);
+              long = omega (arith, blocks .opened, final-within (length g) 0 d);
               opening = blocks .opening;
             };
             point = 𝓛 .point;

@@ -5,7 +5,7 @@ use Rattle.layout.proofs.level_block.Statement.{statement}
 use Rattle.layout.proofs.level_block.Tie as tie
 
 returns : tie.Need-returns
-returns c = let a = c .before .before .before .args in block-top (a .rate) (a .depth) (a .block .now) (a .opening .now) (a .level) (c .if1 .taken)
+returns c = let a = c .before .before .before .args in block-top (a .rate) 0 (a .depth) (a .block .now) (a .opening .now) (a .level) (c .if1 .taken)
 
 block-at-requires : tie.Need-block-at-requires
 block-at-requires c κs = search needs
@@ -17,13 +17,13 @@ add-end : tie.Need-add-end
 add-end c =
     let s = c .before .before .before .before .before in
     let a = s .args in
-    omega (arith, part-within (a .rate) (a .depth) (a .level) (omega arith) (c .before .block-at .ensures) (c .block-len .ensures) (s .pre .3))
+    omega (arith, part-within (a .rate) 0 (a .depth) (a .level) (omega arith) (c .before .block-at .ensures) (c .block-len .ensures) (s .pre .3))
 
 mul-result : tie.Need-mul-result
 mul-result c =
     let s = c .before .before .before .before .before in
     let a = s .args in
-    omega (arith, part-within (a .rate) (a .depth) (a .level) (omega arith) (c .before .block-at .ensures) (c .block-len .ensures) (s .pre .3))
+    omega (arith, part-within (a .rate) 0 (a .depth) (a .level) (omega arith) (c .before .block-at .ensures) (c .block-len .ensures) (s .pre .3))
 
 sub-result : tie.Need-sub-result
 sub-result c = search needs
@@ -35,12 +35,12 @@ part-result-end : tie.Need-part-result-end
 part-result-end c =
     let s = c .before .before .before .before .before in
     let a = s .args in
-    part-within (a .rate) (a .depth) (a .level) (omega arith) (c .before .block-at .ensures) (c .block-len .ensures) (s .pre .3)
+    part-within (a .rate) 0 (a .depth) (a .level) (omega arith) (c .before .block-at .ensures) (c .block-len .ensures) (s .pre .3)
 
 returns-2 : tie.Need-returns-2
 returns-2 c =
     let a = c .before .before .before .before .before .before .args in
-    block-part (a .rate) (a .depth) (a .block .now) (a .opening .now) (a .level) (omega arith) (c .before .before .block-at .ensures) (c .before .block-len .ensures)
+    block-part (a .rate) 0 (a .depth) (a .block .now) (a .opening .now) (a .level) (omega arith) (c .before .before .block-at .ensures) (c .before .block-len .ensures)
 
 pub level-block-spec : {M : Type 1} → statement M
 level-block-spec =

@@ -1,0 +1,60 @@
+-- The base blocks of a message, and then the levels above. Assumes nothing.
+use mathlib.Core.Path.{_≡_, sym, ap, ap₂, _∙_}
+use mathlib.Core.List.{List}
+use Prim.Native.Nat.{ℕ, _*_, _/_, _^_}
+use native.Mathlib.Nat.{mul-comm, mul-div-cancel}
+use native.Mathlib.Omega.{arith}
+use lib.ListN.{length, take, length-take}
+use Rattle.algebra.specs.Words.{PrimeField}
+use Rattle.algebra.specs.WordLists.{low-words, elements, toWords, elements-words, length-elements}
+use Rattle.foldable.specs.Code.{encode}
+use Rattle.foldable.specs.Lift.{lift}
+use Rattle.blocks.specs.Base.{baseBlocks}
+use Rattle.blocks.specs.Lifted.{lift-base}
+use Rattle.parameters.specs.Lent.{lent}
+use Rattle.code.specs.Steps.{LiftInput}
+use Rattle.cofactor.specs.RowLaws.{size-least, rows-count}
+use Rattle.base_spread.specs.LentRows.{lentRows}
+use Rattle.base_spread.specs.LentRowLaws.{first-within, lift-rows, first-coding}
+use Rattle.base_spread.specs.Steps.{SpreadLent, blocksOf, EncodeLent}
+use Rattle.base_spread.proofs.Spreading.{length-blocks}
+
+module _ (𝓕 : PrimeField) (d k n : ℕ) (g t t' m out : List ℕ) (𝓔 : EncodeLent 𝓕 d k n g t t' m out) where
+  open PrimeField 𝓕 using (field as F)
+
+  count : length m / k ≡ 2 ^ d
+  count = ap (λ c. c / k) (𝓔 .message ∙ mul-comm k (2 ^ d)) ∙ mul-div-cancel (2 ^ d) (size-least (𝓔 .coding .lent .size))
+
+  pub first-length : length (take n g) ≡ n
+  first-length = length-take n g ∙ omega (arith, first-within 𝓕 (𝓔 .coding .lent))
+
+  pub spreading : SpreadLent 𝓕 k n g m out
+  spreading =
+      record {
+        lent = 𝓔 .coding .lent;
+        low = 𝓔 .words;
+        whole = 𝓔 .message ∙ ap (λ c. k * c) (sym count);
+        size = 𝓔 .size ∙ ap (λ c. n * c) (sym count);
+      }
+
+  pub lifting : (w : List ℕ) → w ≡ blocksOf 𝓕 k n g m → LiftInput 𝓕 d (take n g) t t' w
+  unfolding blocksOf
+  lifting w e =
+      record {
+        coding = first-coding 𝓕 (𝓔 .coding);
+        size = ap length e ∙ length-blocks 𝓕 k n g m out spreading ∙ ap₂ _*_ (sym first-length) count;
+        block = rw e (low-words 𝓕 _);
+      }
+
+  pub encoded : (w r : List ℕ) → w ≡ blocksOf 𝓕 k n g m → r ≡ toWords 𝓕 (lift F (lent 𝓕 (take n g) t t') d (elements 𝓕 w)) → r ≡ toWords 𝓕 (encode F (lentRows 𝓕 k n g t t') d (elements 𝓕 m))
+  unfolding blocksOf baseBlocks
+  encoded w r e q =
+      let C = lentRows 𝓕 k n g t t' in
+      let 𝓖 = 𝓔 .coding .lent in
+      let M = elements 𝓕 m in
+      let rows-are = rows-count 𝓕 k n g (𝓖 .few) (omega (arith, 𝓖 .long)) in
+      q
+      ∙ ap (toWords 𝓕)
+      (sym (lift-rows 𝓕 k n g t t' (first-within 𝓕 𝓖) d (elements 𝓕 w))
+      ∙ ap (lift F C d) (ap (elements 𝓕) e ∙ elements-words 𝓕 _ ∙ ap (λ b. baseBlocks F C b M) count)
+      ∙ lift-base F C d (𝓔 .coding .legal) M (length-elements 𝓕 m ∙ 𝓔 .message ∙ ap (λ c. c * 2 ^ d) (sym rows-are)))
