@@ -69,8 +69,8 @@ module _ (𝓕 : PrimeField) where
   pub record SumsLeft (d : ℕ) (y : Residue) (r o : List ℕ) (i : ℕ) (claim : Residue) : Type 0 where
     pub left : i ≤ d
     pub low : Low 𝓕 claim
-    pub first : (z : List Element)
-        → firstFailure (sumsFrom F 0 (elements 𝓕 o) z (elements 𝓕 r) d (elem 𝓕 y)) ≡ firstFailure (sumsFrom F 0 (elements 𝓕 o) z (elements 𝓕 r) i (elem 𝓕 claim))
+    pub first : (low : ℕ) (z : List Element)
+        → firstFailure (sumsFrom F low (elements 𝓕 o) z (elements 𝓕 r) d (elem 𝓕 y)) ≡ firstFailure (sumsFrom F low (elements 𝓕 o) z (elements 𝓕 r) i (elem 𝓕 claim))
 
   module _ (d : ℕ) (y : Residue) (r o : List ℕ) (𝓘 : SumsInput 𝓕 d y r o) where
     abbrev O : List Element
@@ -80,7 +80,7 @@ module _ (𝓕 : PrimeField) where
     ρ = elements 𝓕 r
 
     pub sums-none : SumsLeft d y r o d y
-    sums-none = record { left = omega arith; low = 𝓘 .claim; first = λ z. refl }
+    sums-none = record { left = omega arith; low = 𝓘 .claim; first = λ low z. refl }
 
     pub sums-end : (i : ℕ) (claim : Residue) → SumsLeft d y r o i claim → (0 < i → ⊥) → SumsResult 𝓕 d y r o (Last claim)
     sums-end zero claim 𝓢 h = record { low = 𝓢 .low; first = 𝓢 .first }
@@ -102,7 +102,7 @@ module _ (𝓕 : PrimeField) where
       fails e =
           record {
             low = tt;
-            first = λ z. 𝓢 .first z ∙ first-fails (sumCheck (suc i)) _ _ (ap (λ n. same F (sent F O n (suc i) 0 ⊞ sent F O n (suc i) 1) (elem 𝓕 claim)) deep ∙ e);
+            first = λ low z. 𝓢 .first low z ∙ first-fails (sumCheck (suc i)) _ _ (ap (λ n. same F (sent F O n (suc i) 0 ⊞ sent F O n (suc i) 1) (elem 𝓕 claim)) deep ∙ e);
           }
 
       turn : (next : Residue) → same F (sent F O d (suc i) 0 ⊞ sent F O d (suc i) 1) (elem 𝓕 claim) ≡ true
@@ -113,8 +113,8 @@ module _ (𝓕 : PrimeField) where
           record {
             left = omega arith;
             low = is-low 𝓕 _ en;
-            first = λ z. 𝓢 .first z ∙ first-holds (sumCheck (suc i)) _ _ (ap (λ n. same F (sent F O n (suc i) 0 ⊞ sent F O n (suc i) 1) (elem 𝓕 claim)) deep ∙ e)
-                ∙ ap (λ x. firstFailure (sumsFrom F 0 O z ρ i x))
+            first = λ low z. 𝓢 .first low z ∙ first-holds (sumCheck (suc i)) _ _ (ap (λ n. same F (sent F O n (suc i) 0 ⊞ sent F O n (suc i) 1) (elem 𝓕 claim)) deep ∙ e)
+                ∙ ap (λ x. firstFailure (sumsFrom F low O z ρ i x))
                 ((λ k. through K (half 𝓕) (sent F O (deep k) (suc i) 0) (sent F O (deep k) (suc i) 1) (sent F O (deep k) (suc i) 2) (getD-elements 𝓕 r i k)) ∙ sym (stands 𝓕 _ en));
           }
 
@@ -128,8 +128,8 @@ module _ (𝓕 : PrimeField) where
     sums-turn (suc i) claim next 𝓢 h e en = let one : suc i - 1 ≡ i = omega arith in rw one (turn i claim 𝓢 next e (rw one at en))
 
     -- the first failure of the sums and the final check, by what the loop of the sums answers
-    pub result-is : (s : Claimed) → SumsResult 𝓕 d y r o s → (z : List Element) → afterSums 𝓕 O z ρ s ≡ firstFailure (sums F 0 O z ρ (elem 𝓕 y))
-    result-is s 𝓢 z = sym (ap (λ n. firstFailure (sumsFrom F 0 O z ρ n (elem 𝓕 y))) deep ∙ 𝓢 .first z)
+    pub result-is : (s : Claimed) → SumsResult 𝓕 d y r o s → (z : List Element) → afterSums 𝓕 0 O z ρ s ≡ firstFailure (sums F 0 O z ρ (elem 𝓕 y))
+    result-is s 𝓢 z = sym (ap (λ n. firstFailure (sumsFrom F 0 O z ρ n (elem 𝓕 y))) deep ∙ 𝓢 .first 0 z)
 
   -- the final check is lent what the sums are, with the claim that they leave
   pub last-input : (d : ℕ) (y : Residue) (z r o : List ℕ) (s : Claimed) (w : Residue) → ClaimsInput 𝓕 d y z r o → s ≡ Last w → LowClaim 𝓕 s → ClaimsInput 𝓕 d w z r o

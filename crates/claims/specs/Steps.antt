@@ -52,15 +52,15 @@ module _ (𝓕 : PrimeField) where
     pub low : LowWords P z
 
   -- the first failure by the answer of the sums: sum i failed, or the final check decides
-  abbrev pub afterSums : (o z r : List Element) → Claimed → Option Check
-  afterSums o z r (Last w) = firstFailure (sumsFrom F 0 o z r 0 (elem 𝓕 w))
-  afterSums o z r (Fails i) = some (sumCheck i)
+  abbrev pub afterSums : (low : ℕ) (o z r : List Element) → Claimed → Option Check
+  afterSums low o z r (Last w) = firstFailure (sumsFrom F low o z r 0 (elem 𝓕 w))
+  afterSums low o z r (Fails i) = some (sumCheck i)
 
   abbrev pub LowClaim : Claimed → Type 0
   LowClaim (Last w) = Low 𝓕 w
   LowClaim (Fails i) = Unit {0}
 
-  -- the answer s of the sums from the top one on, at every point
+  -- the answer s of the sums from the top one on, with any number of low variables and at every point
   pub record SumsResult (d : ℕ) (y : Residue) (r o : List ℕ) (s : Claimed) : Type 0 where
     pub low : LowClaim s
-    pub first : (z : List Element) → firstFailure (sumsFrom F 0 (elements 𝓕 o) z (elements 𝓕 r) d (elem 𝓕 y)) ≡ afterSums (elements 𝓕 o) z (elements 𝓕 r) s
+    pub first : (low : ℕ) (z : List Element) → firstFailure (sumsFrom F low (elements 𝓕 o) z (elements 𝓕 r) d (elem 𝓕 y)) ≡ afterSums low (elements 𝓕 o) z (elements 𝓕 r) s

@@ -13,7 +13,7 @@ use verdict::Failure;
 use verdict::Found;
 
 mod last;
-mod sums;
+pub mod sums;
 
 pub fn claims(depth: u32, z: &[u32], y: Residue, r: &[u32], opening: &[u32], field: Field) -> Found
     requires { ⌜ ClaimsInput (chosen field) depth y (now z) (now r) (now opening) ⌝ }

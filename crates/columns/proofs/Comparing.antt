@@ -43,7 +43,7 @@ module _ (𝓕 : PrimeField) where
   open Vectors (vectors K) using (_⊛_)
 
   -- the columns of words are the words of the columns
-  words-every : (c a b : ℕ) (v : List Element) → toWords 𝓕 (every (K .𝟘) c a b v) ≡ every 0 c a b (toWords 𝓕 v)
+  pub words-every : (c a b : ℕ) (v : List Element) → toWords 𝓕 (every (K .𝟘) c a b v) ≡ every 0 c a b (toWords 𝓕 v)
   unfolding toWords
   words-every c a b v = map-row word b (λ i. getD v (a + i * c) (K .𝟘)) ∙ row-ext b _ _ (λ i h. sym (getD-words 𝓕 v (a + i * c)))
 
@@ -107,7 +107,7 @@ module _ (𝓕 : PrimeField) where
             record {
               coding = 𝓜 .coding;
               depth = 𝓜 .depth;
-              wide = 𝓜 .wide;
+              wide = omega (arith, 𝓜 .wide);
               column = 𝓜 .column;
               size = ap length part-is ∙ many ∙ en;
               block = rw part-is (low-words 𝓕 _);

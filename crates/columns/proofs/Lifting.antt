@@ -2,7 +2,7 @@
 use mathlib.Core.Path.{_≡_, sym, ap, ap₂, _∙_}
 use mathlib.Core.List.{List, _++_}
 use Prim.Native.Nat.{ℕ, suc, _+_, _*_, _-_, _^_, _≤_, _<_}
-use native.Mathlib.Nat.{mul-comm, one-mul, two-pow-succ}
+use native.Mathlib.Nat.{mul-le-mul, mul-comm, one-mul, two-pow-succ}
 use native.Mathlib.Numerals.{add-one}
 use native.Mathlib.Omega.{arith}
 use lib.ListN.{length, take, drop, getD, length-append, length-take, length-drop}
@@ -18,17 +18,19 @@ use Rattle.algebra.specs.WordLists.{Low, low-take, low-drop, low-append, low-wo
 use Rattle.foldable.specs.Code.{size}
 use Rattle.foldable.specs.Every.{every, place-within}
 use Rattle.foldable.specs.Lift.{lift, lift-suc}
-use Rattle.job.specs.Limits.{maxDepth, maxRate, maxBlock, diagonalsSize}
-use Rattle.job.specs.LimitLaws.{power-most, product-most}
+use Rattle.job.specs.Limits.{maxDepth, maxMessage, diagonalsSize}
+use Rattle.job.specs.LimitLaws.{power-most}
 use Rattle.parameters.specs.Lent.{diagonal, Coding}
 use Rattle.parameters.specs.LentLaws.{coding-below, getD-diagonal, level-end}
+use Rattle.undo.specs.Steps.{longestBase}
 use Rattle.code.specs.Steps.{crossed}
 use Rattle.columns.specs.Steps.{lentColumn, CrossLent, ColumnHalfIs, ColumnLent}
 
-pub column-half : (d j c r : ℕ) → 0 < d → d ≤ maxDepth → j < c → c ≤ maxRate → r ≡ 2 ^ (d - 1) → (1 ≤ r) × (c * (r - 1) ≤ maxBlock) × ColumnHalfIs d j c r (j + c * (r - 1)) (d - 1)
+pub column-half : (d j c r : ℕ) → 0 < d → d ≤ maxDepth → j < c → c ≤ longestBase → r ≡ 2 ^ (d - 1) → (1 ≤ r) × (c * (r - 1) ≤ longestBase * maxMessage) × ColumnHalfIs d j c r (j + c * (r - 1)) (d - 1)
 column-half d j c r lo hi column wide e =
     let p : 1 ≤ r = omega (arith, pow-pos (d - 1)) in
-    (p, product-most c (r - 1) wide (omega (arith, power-most (d - 1) (omega arith))), record { low-is = omega arith; half-is = e; off-is = ap (λ n. j + c * (n - 1)) e })
+    let most : r - 1 ≤ maxMessage = omega (arith, power-most (d - 1) (omega arith)) in
+    (p, mul-le-mul wide most, record { low-is = omega arith; half-is = e; off-is = ap (λ n. j + c * (n - 1)) e })
 
 module _ (𝓕 : PrimeField) where
   infixl 66 _⊕_

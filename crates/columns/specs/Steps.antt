@@ -11,6 +11,7 @@ use Rattle.job.specs.Limits.{maxDepth, maxRate, blockSize, diagonalsSize}
 use Rattle.residue.specs.declared.Residue.{Residue}
 use Rattle.residue.specs.Elements.{Low}
 use Rattle.parameters.specs.Lent.{lent, Coding}
+use Rattle.undo.specs.Steps.{longestBase}
 
 -- half a column of level d, and where column j of the level's diagonal begins
 pub record ColumnHalfIs (d j c half off low : ℕ) : Type 0 where
@@ -33,7 +34,7 @@ module _ (𝓕 : PrimeField) where
 
   -- two halves of n words each, and the diagonals in every c-th place of t and t' from a on
   pub record CrossLent (n a c : ℕ) (t t' w : List ℕ) : Type 0 where
-    pub wide : c ≤ maxRate
+    pub wide : c ≤ longestBase
     pub first : a + n * c < length t + c
     pub second : a + n * c < length t' + c
     pub size : length w ≡ n + n
@@ -45,7 +46,7 @@ module _ (𝓕 : PrimeField) where
   pub record ColumnLent (d j : ℕ) (g t t' w : List ℕ) : Type 0 where
     pub coding : Coding 𝓕 d g t t'
     pub depth : d ≤ maxDepth
-    pub wide : length g ≤ maxRate
+    pub wide : length g ≤ longestBase
     pub column : j < length g
     pub size : length w ≡ 2 ^ d
     pub block : LowWords P w

@@ -12,7 +12,7 @@ ghost use Rattle.columns.specs.Steps.{MessageLent};
 use residue::Field;
 use residue::Residue;
 
-mod lift;
+pub mod lift;
 mod places;
 
 // Whether column j of the block is that of the codeword of the message in front of work.

@@ -6,9 +6,10 @@ ghost use Rattle.algebra.specs.WordLists.{elements, toWords};
 ghost use Rattle.algebra.specs.Tests.{allSame};
 ghost use Rattle.foldable.specs.Every.{every};
 ghost use Rattle.foldable.specs.Lift.{lift as lifted};
-ghost use Rattle.job.specs.Limits.{maxDepth, maxRate, blockSize};
+ghost use Rattle.job.specs.Limits.{maxDepth, blockSize};
 ghost use Rattle.residue.specs.Elements.{F};
 ghost use Rattle.residue.specs.Chosen.{chosen};
+ghost use Rattle.undo.specs.Steps.{longestBase};
 ghost use Rattle.columns.specs.Steps.{ColumnHalfIs, ColumnLent, lentColumn};
 use crate::places;
 use residue::Field;
@@ -21,7 +22,7 @@ pub struct ColumnHalf {
 }
 
 fn column_half(depth: u32, j: usize, c: usize) -> ColumnHalf
-    requires { ⌜ (0 < depth) × (depth ≤ maxDepth) × (j < c) × (c ≤ maxRate) ⌝ }
+    requires { ⌜ (0 < depth) × (depth ≤ maxDepth) × (j < c) × (c ≤ longestBase) ⌝ }
     ensures { λ r. ⌜ ColumnHalfIs depth j c (r .half) (r .off) (r .low) ⌝ }
 {
     let low = depth - 1;

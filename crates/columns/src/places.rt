@@ -7,9 +7,9 @@ ghost use Rattle.algebra.specs.WordLists.{elements, toWords};
 ghost use Rattle.algebra.specs.Tests.{allSame};
 ghost use Rattle.code.specs.Steps.{times, crossed};
 ghost use Rattle.foldable.specs.Every.{every};
-ghost use Rattle.job.specs.Limits.{maxRate};
 ghost use Rattle.residue.specs.Elements.{elem};
 ghost use Rattle.residue.specs.Chosen.{chosen};
+ghost use Rattle.undo.specs.Steps.{longestBase};
 ghost use Rattle.columns.specs.Steps.{ScaleLent, CrossLent};
 use residue::Field;
 use residue::Residue;
@@ -50,7 +50,7 @@ pub fn cross(n: usize, a: usize, c: usize, t: &[u32], t2: &[u32], w: &mut [u32],
 
 // Whether the words of w are those in every c-th place of the block from j on.
 pub fn same_places(j: usize, c: usize, block: &[u32], w: &[u32]) -> bool
-    requires { ⌜ (j < c) × (c ≤ maxRate) × (length (now block) ≡ c * length (now w)) ⌝ }
+    requires { ⌜ (j < c) × (c ≤ longestBase) × (length (now block) ≡ c * length (now w)) ⌝ }
     ensures { λ r. ⌜ r ≡ allSame (now (w .entry)) (every 0 c j (length (now (w .entry))) (now (block .entry))) ⌝ }
 {
     let mut ok = true;

@@ -1,5 +1,5 @@
 -- The block of level i + 1, with the block of level i behind it, as one part of the opening. Assumes nothing.
-use mathlib.Core.Path.{_≡_, sym, ap, ap₂, _∙_}
+use mathlib.Core.Path.{_≡_, refl, sym, ap, ap₂, _∙_}
 use mathlib.Core.List.{List, _++_, append-assoc}
 use Prim.Native.Nat.{ℕ, suc, _+_, _*_, _-_, _<_, _≤_}
 use native.Mathlib.Nat.{mul-one}
@@ -19,9 +19,9 @@ use Rattle.job.specs.Limits.{blockSize, diagonalsSize}
 use Rattle.layout.specs.LayoutLaws.{block-end, block-within}
 use Rattle.parameters.specs.Lent.{diagonal}
 use Rattle.parameters.specs.LentLaws.{level-within, length-diagonal}
-use Rattle.fold.specs.Behind.{FoldBehindLent, foldedBehind}
-use Rattle.fold.specs.Job.{foldWords}
-use Rattle.fold.proofs.Straight.{length-fold-words}
+use Rattle.lines.specs.Behind.{FoldBehindLent, foldedBehind}
+use Rattle.lines.specs.Folds.{foldWords}
+use Rattle.lines.proofs.Straight.{length-fold-words}
 use Rattle.descend.specs.Descending.{blockAbove, foldedAbove, FoldBlockInput}
 
 module _ (𝓕 : PrimeField) where
@@ -101,12 +101,13 @@ module _ (𝓕 : PrimeField) where
           record {
             diagonals = record {
               some = lit< tt;
-              first = sym (mul-one (length first));
-              second = length-second ∙ sym (mul-one (length first) ∙ length-first);
+              first = omega arith;
+              second = omega (arith, length-first, length-second);
               low = low-take (off + n - off) (low-drop off (𝓘 .coding .low));
               low' = low-take (off + n - off) (low-drop off (𝓘 .coding .low'));
               differ = λ k h f. differ k (omega (arith, length-first)) (rw (mul-one k) at f);
             };
+            second = length-second ∙ sym length-first;
             whole = length-take (a + 3 * n - a) (drop a o) ∙ omega (arith, length-drop a o, length-first, end-within);
             block = rw block-is (𝓘 .block);
           }
@@ -133,4 +134,4 @@ module _ (𝓕 : PrimeField) where
           ∙ ap (λ v. v ++ (W ++ drop (blockAt c 0 d i + length W) o)) front
         where
           length-folded : length (foldWords 𝓕 (length first) first second (take (length first + length first) part) (getD r i 0)) ≡ n
-          length-folded = length-fold-words 𝓕 (behind-lent .diagonals) (take (length first + length first) part) (length-take (length first + length first) part ∙ omega (arith, behind-lent .whole)) (getD r i 0) ∙ length-first
+          length-folded = length-fold-words 𝓕 (behind-lent .diagonals) refl (behind-lent .second) (take (length first + length first) part) (length-take (length first + length first) part ∙ omega (arith, behind-lent .whole)) (getD r i 0) ∙ length-first

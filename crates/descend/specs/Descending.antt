@@ -6,7 +6,7 @@ use lib.ListN.{length, take, drop, getD}
 use Rattle.algebra.specs.Words.{PrimeField}
 use Rattle.algebra.specs.WordLists.{Low}
 use Rattle.basefold.specs.Layout.{blockAt, openingSize}
-use Rattle.fold.specs.Job.{foldWords}
+use Rattle.lines.specs.Folds.{foldWords}
 use Rattle.job.specs.Limits.{maxDepth, maxRate, blockSize}
 use Rattle.parameters.specs.Lent.{diagonal, Coding}
 

@@ -5,7 +5,7 @@ ghost use Rattle.residue.specs.Chosen.{chosen};
 ghost use Rattle.algebra.specs.Lists.{put};
 ghost use Rattle.basefold.specs.Layout.{blockAt};
 ghost use Rattle.descend.specs.Descending.{FoldBlockInput, foldedAbove};
-use fold::behind;
+use lines::behind;
 use residue::Field;
 use residue::Residue;
 

@@ -114,6 +114,8 @@ module _ (𝓕 : PrimeField) where
     -- what holds where no refusal is due
     pub record NoRefusalDue : Type 0 where
       pub diagonals : Diagonals 𝓕 1 out t t2
+      pub first : length t ≡ out
+      pub second : length t2 ≡ out
       pub whole : length block ≡ out + out
       pub low : Low P block
       pub challenge : a < P
@@ -136,12 +138,14 @@ module _ (𝓕 : PrimeField) where
         record {
           diagonals = record {
             some = omega arith;
-            first = l .first ∙ sym (mul-one out ∙ n);
-            second = l .second ∙ sym (mul-one out ∙ n);
+            first = omega (arith, l .first, n);
+            second = omega (arith, l .second, n);
             low = all-below 𝓕 t (first .0);
             low' = all-below 𝓕 t2 (second .0);
             differ = λ k h. all-differ t t2 differ (k * 1) (omega (arith, l .first, mul-one k)) (omega (arith, l .second, mul-one k));
           };
+          first = l .first ∙ sym n;
+          second = l .second ∙ sym n;
           whole = l .whole ∙ twice rate level (level-bounds level (level-passes .0) .0) ∙ ap (λ m. m + m) (sym n);
           low = all-below 𝓕 block (third .0);
           challenge = all-below 𝓕 (a ∷ []) (one .0) .low 0 (omega arith);

@@ -5,14 +5,13 @@ use mathlib.Core.List.{List, [], _∷_}
 use Prim.Native.Nat.{ℕ, _-_}
 use lib.Dec.{leb, eqb}
 use lib.ListN.{length}
-use Rattle.algebra.specs.Words.{Words, PrimeField}
-use Rattle.algebra.specs.WordLists.{elements, toWords}
-use Rattle.foldable.specs.Code.{foldAlong}
+use Rattle.algebra.specs.Words.{PrimeField}
 use Rattle.job.specs.Limits.{maxDepth, rateOk, blockSize}
 use Rattle.job.specs.Outcome.{Outcome, require, _⨾_, kept, outcome}
 use Rattle.job.specs.declared.Answer.{Answer}
 use Rattle.job.specs.declared.Input.the-variants.{T, T2, Block, R}
 use Rattle.places.specs.Inputs.{Lent, judgeWords, noEqual}
+use Rattle.lines.specs.Folds.{foldWords}
 
 -- the upper level: at least 1
 unfoldable pub levelOk : ℕ → Bool
@@ -35,9 +34,6 @@ abbrev pub foldInputs : List ℕ → List ℕ → List ℕ → ℕ → List Lent
 foldInputs t t2 block a = (T, t) ∷ (T2, t2) ∷ (Block, block) ∷ (R, a ∷ []) ∷ []
 
 module _ (𝓕 : PrimeField) where
-  open PrimeField 𝓕 using (field as F, words as W)
-  open Words W using (el)
-
   -- the outcome that is due
   unfoldable pub judgeFolding : ℕ → ℕ → List ℕ → List ℕ → List ℕ → ℕ → ℕ → Outcome (Unit {0})
   judgeFolding level rate t t2 block a out =
@@ -45,11 +41,7 @@ module _ (𝓕 : PrimeField) where
       ⨾ require (lengthsOk level rate (length t) (length t2) (length block) out) 3
       ⨾ judgeWords 𝓕 (foldInputs t t2 block a) ⨾ noEqual t t2
 
-  -- the words of the fold by a, for diagonals and a result of n words
-  abbrev pub foldWords : ℕ → List ℕ → List ℕ → List ℕ → ℕ → List ℕ
-  foldWords n t t2 block a = toWords 𝓕 (foldAlong F n (el a) (elements 𝓕 t) (elements 𝓕 t2) (elements 𝓕 block))
-
   -- the answer r, and the result, which held old
   pub record Folded (level rate : ℕ) (t t2 block : List ℕ) (a : ℕ) (old : List ℕ) (r : Answer) (out : List ℕ) : Type 0 where
     pub answer : outcome r ≡ judgeFolding level rate t t2 block a (length old)
-    pub result : out ≡ kept (judgeFolding level rate t t2 block a (length old)) old (foldWords (blockSize rate (level - 1)) t t2 block a)
+    pub result : out ≡ kept (judgeFolding level rate t t2 block a (length old)) old (foldWords 𝓕 (blockSize rate (level - 1)) t t2 block a)

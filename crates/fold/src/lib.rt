@@ -2,17 +2,13 @@
 ghost use mathlib.Core.Path.{_≡_};
 ghost use mathlib.Core.Bool.{_&&_};
 ghost use mathlib.Core.List.{[], _∷_};
-ghost use Prim.Native.Nat.{_+_};
 ghost use lib.Dec.{ltb};
-ghost use lib.ListN.{length};
-ghost use Rattle.algebra.specs.WordLists.{Low as LowWords};
 ghost use Rattle.job.specs.Outcome.{outcome, unless, _⨾_};
-ghost use Rattle.residue.specs.Elements.{P, Low};
+ghost use Rattle.residue.specs.Elements.{P};
 ghost use Rattle.residue.specs.Chosen.{chosen};
 ghost use Rattle.words.specs.Scans.{allBelow, allDiffer};
 ghost use Rattle.places.specs.Inputs.{inOrder, judgeWords, noEqual, Short};
-ghost use Rattle.inversion.specs.Inversion.{Diagonals};
-ghost use Rattle.fold.specs.Job.{levelOk, foldLimits, lengthsOk, judgeFolding, foldWords, Folded};
+ghost use Rattle.fold.specs.Job.{levelOk, foldLimits, lengthsOk, judgeFolding, Folded};
 use job::Answer;
 use job::Refusal;
 use places::inputs;
@@ -20,9 +16,6 @@ use residue::Field;
 use residue::Residue;
 use words::scan;
 use words::scan::PairScan;
-
-pub mod behind;
-mod lines;
 
 // A block of level 0 cannot be folded.
 fn level_ok(level: u32) -> bool
@@ -139,22 +132,6 @@ fn judge(
     judge_places(t, t2, block, challenge, words, diagonals.apart, field)
 }
 
-// The fold, of what is judged already.
-fn fold_block(
-    t: &[u32],
-    t2: &[u32],
-    block: &[u32],
-    challenge: Residue,
-    out: &mut [u32],
-    field: Field,
-)
-    requires { ⌜ Diagonals (chosen field) 1 (length (now out)) (now t) (now t2) × (length (now block) ≡ length (now out) + length (now out)) × LowWords (P (chosen field)) (now block) × Low (chosen field) challenge ⌝ }
-    ensures { λ _. ⌜ now (out .exit) ≡ foldWords (chosen field) (length (now (out .entry))) (now (t .entry)) (now (t2 .entry)) (now (block .entry)) (challenge .0) ⌝ }
-{
-    inversion::invert_neighbours(t, t2, out, field);
-    lines::draw(t, block, challenge, out, field);
-}
-
 // The level is the upper one: t and t2 are the diagonals of the level below it, block is a block of it, and out takes the block below.
 pub fn fold(
     level: u32,
@@ -170,7 +147,7 @@ pub fn fold(
 {
     let answer = judge(level, rate, t, t2, block, challenge, out.len(), field);
     if let Answer::Done = answer {
-        fold_block(t, t2, block, Residue::new(challenge, field), out, field);
+        lines::fold_block(t, t2, block, Residue::new(challenge, field), out, field);
     }
     answer
 }

@@ -126,17 +126,17 @@ module _ (𝓕 : PrimeField) where
       pub lent-low : getD out i 0 < P
       lent-low = rw lent-right (𝓟 .words .low i (omega (arith, 𝓟 .right)))
 
-      pub lent-turn : (l s : ℕ) → l ≡ word (el (getD b i 0) ⊟ el (getD t i 0) ⊠ el (getD out i 0)) → s ≡ word (el l ⊞ el (getD t' i 0) ⊠ el (getD out i 0))
-          → LentTo t t' b r (i + 1) (ok && eqb s (getD b (length t + i) 0)) (set out i l)
-      lent-turn l s q e =
+      pub lent-turn : (l : ℕ) (same : Bool) → l ≡ word (el (getD b i 0) ⊟ el (getD t i 0) ⊠ el (getD out i 0)) → same ≡ eqb (word (el l ⊞ el (getD t' i 0) ⊠ el (getD out i 0))) (getD b (length t + i) 0)
+          → LentTo t t' b r (i + 1) (ok && same) (set out i l)
+      lent-turn l same q e =
           let n = length t in
           let u = take n b in
           let v = drop n b in
           let a = sym (getD-take n b i 0 h) in
           let y = sym (getD-drop n b i 0) in (
-            flag-turn n t t' u v r refl (𝓟 .second) lu lv (𝓟 .right) i (getD b i 0) (getD out i 0) (getD b (n + i) 0) l s h a lent-right y q e (p .0),
+            rw e (flag-turn n t t' u v r refl (𝓟 .second) lu lv (𝓟 .right) i (getD b i 0) (getD out i 0) (getD b (n + i) 0) l _ h a lent-right y q refl (p .0)),
             filled-turn 0 (omega (arith, 𝓟 .right)) (length-peeled n u t r lu refl (𝓟 .right) ∙ sym (𝓟 .right)) (p .1)
-                (left-is n t t' u v r refl (𝓟 .second) lu lv (𝓟 .right) i (getD b i 0) (getD out i 0) (getD b (n + i) 0) l s h a lent-right y q e),
+                (left-is n t t' u v r refl (𝓟 .second) lu lv (𝓟 .right) i (getD b i 0) (getD out i 0) (getD b (n + i) 0) l _ h a lent-right y q refl),
           )
 
     pub lent-end : (i : ℕ) (ok : Bool) (out : List ℕ) → length t ≤ i → LentTo t t' b r i ok out → Peeled 𝓕 t t' (take (length t) b) (drop (length t) b) r ok out
@@ -197,19 +197,19 @@ module _ (𝓕 : PrimeField) where
           let k : n + i + n ≡ n + n + i = omega arith in
           at₃ ∙ ap (λ j. getD w j 0) k ∙ sym (getD-drop (n + n) w i 0)
 
-      pub front-turn : (l s : ℕ) → l ≡ word (el (getD out i 0) ⊟ el (getD t i 0) ⊠ el (getD out (length t + i + length t) 0))
-          → s ≡ word (el l ⊞ el (getD t' i 0) ⊠ el (getD out (length t + i + length t) 0))
-          → FrontTo t t' w (i + 1) (ok && eqb s (getD out (length t + i) 0)) (set out i l)
-      front-turn l s q e =
+      pub front-turn : (l : ℕ) (flag : Bool) → l ≡ word (el (getD out i 0) ⊟ el (getD t i 0) ⊠ el (getD out (length t + i + length t) 0))
+          → flag ≡ eqb (word (el l ⊞ el (getD t' i 0) ⊠ el (getD out (length t + i + length t) 0))) (getD out (length t + i) 0)
+          → FrontTo t t' w (i + 1) (ok && flag) (set out i l)
+      front-turn l flag q e =
           let n = length t in
           let u = firstOf t w in
           let v = secondOf t w in
           let r = thirdOf t w in
           let a = at₁ ∙ sym (getD-take n w i 0 h) in
           let y = at₂ ∙ sym (getD-take n (drop n w) i 0 h ∙ getD-drop n w i 0) in (
-            flag-turn n t t' u v r refl (𝓟 .second) l₁ l₂ l₃ i _ _ (getD out (n + i) 0) l s h a third-is y q e (p .0),
+            rw e (flag-turn n t t' u v r refl (𝓟 .second) l₁ l₂ l₃ i _ _ (getD out (n + i) 0) l _ h a third-is y q refl (p .0)),
             filled-turn 0 (omega (arith, 𝓟 .size)) same (p .1)
-                (left-is n t t' u v r refl (𝓟 .second) l₁ l₂ l₃ i _ _ (getD out (n + i) 0) l s h a third-is y q e
+                (left-is n t t' u v r refl (𝓟 .second) l₁ l₂ l₃ i _ _ (getD out (n + i) 0) l _ h a third-is y q refl
                 ∙ sym (List·getD-append new (drop n w) 0 i (omega (arith, length-new)))),
           )
 

@@ -2,7 +2,7 @@
 use mathlib.Core.Path.{_≡_}
 use mathlib.Core.Bool.{Bool}
 use mathlib.Core.List.{List}
-use Prim.Native.Nat.{ℕ, suc, _+_, _*_, _^_, _≤_}
+use Prim.Native.Nat.{ℕ, suc, _+_, _*_, _^_, _≤_, _<_}
 use lib.ListN.{length, take, drop}
 use Rattle.algebra.specs.Field.{Field}
 use Rattle.algebra.specs.Vector.{Vectors, vectors}
@@ -50,6 +50,13 @@ module _ (𝓕 : PrimeField) where
 
   unfoldable pub raised : List ℕ → List ℕ → List ℕ → List ℕ
   raised l t r = toWords 𝓕 (elements 𝓕 l ⊕ elements 𝓕 t ⊙ elements 𝓕 r)
+
+  -- words below the modulus: of a block's first half, of both diagonals, and of the codeword of the message's right half
+  pub record PlaceLow (u t t' r : ℕ) : Type 0 where
+    pub word : u < P
+    pub first : t < P
+    pub second : t' < P
+    pub right : r < P
 
   -- the diagonals of a level, a block of its two halves, and the codeword r of the message's right half
   pub record LentPeel (t t' b r : List ℕ) : Type 0 where

@@ -4,8 +4,8 @@ ghost use Prim.Native.Nat.{_+_};
 ghost use lib.ListN.{length, take, drop};
 ghost use Rattle.residue.specs.Chosen.{chosen};
 ghost use Rattle.halves_step.specs.Steps.{LentPeel, FrontPeel, Peeled};
+use crate::place;
 use residue::Field;
-use words::entry;
 
 // Of a block that is lent, with r in out: out becomes u - t r. Whether that gives v.
 pub fn peel_lent(t: &[u32], t2: &[u32], block: &[u32], out: &mut [u32], field: Field) -> bool
@@ -17,10 +17,9 @@ pub fn peel_lent(t: &[u32], t2: &[u32], block: &[u32], out: &mut [u32], field: F
     let mut i = 0;
     while i < n {
         let k = n + i;
-        let r = out[i];
-        let l = entry::minus_product(block[i], t[i], r, field);
-        ok = ok & (entry::plus_product(l, t2[i], r, field) == block[k]);
-        out[i] = l;
+        let p = place::peel_at(block[i], block[k], t[i], t2[i], out[i], field);
+        ok = ok & p.same;
+        out[i] = p.left;
         i += 1;
     }
     ok
@@ -37,10 +36,9 @@ pub fn peel_front(t: &[u32], t2: &[u32], w: &mut [u32], field: Field) -> bool
     while i < n {
         let k = n + i;
         let q = k + n;
-        let r = w[q];
-        let l = entry::minus_product(w[i], t[i], r, field);
-        ok = ok & (entry::plus_product(l, t2[i], r, field) == w[k]);
-        w[i] = l;
+        let p = place::peel_at(w[i], w[k], t[i], t2[i], w[q], field);
+        ok = ok & p.same;
+        w[i] = p.left;
         i += 1;
     }
     ok

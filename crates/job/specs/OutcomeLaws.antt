@@ -7,7 +7,7 @@ use native.Mathlib.Omega.{arith}
 use Rattle.job.specs.declared.Input.{Input}
 use Rattle.job.specs.declared.Input.the-variants.{G, T, T2, Block, Z, Y, R, Opening}
 use Rattle.job.specs.declared.Refusal.{Refusal}
-use Rattle.job.specs.declared.Refusal.the-variants.{Depth, Rate, Length, Word, BaseRow, Diagonals, Queries, NoCodeword, Clearance, Repeated, NoPowerOfTwo}
+use Rattle.job.specs.declared.Refusal.the-variants.{Depth, Rate, Length, Word, BaseRow, Diagonals, Queries, NoCodeword, Clearance, Repeated, NoPowerOfTwo, BaseWords}
 use Rattle.job.specs.declared.Answer.{Answer}
 use Rattle.job.specs.declared.Answer.the-variants.{Done, Refused}
 use Rattle.job.specs.Outcome.{Numbers, unplaced, Outcome, refused, done, inputNumber, due, outcome, demand, require, unless, _⨾_, kept}
@@ -138,6 +138,7 @@ number-positive NoCodeword e = omega arith
 number-positive Clearance e = omega arith
 number-positive Repeated e = omega arith
 number-positive NoPowerOfTwo e = omega arith
+number-positive BaseWords e = omega arith
 
 -- an input is determined by its number, and an answer by its outcome
 abbrev ofInput : ℕ → Input
@@ -174,7 +175,8 @@ ofNumber (suc (suc (suc (suc (suc (suc (suc (suc zero)))))))) k i = NoCodeword
 ofNumber (suc (suc (suc (suc (suc (suc (suc (suc (suc zero))))))))) k i = Clearance
 ofNumber (suc (suc (suc (suc (suc (suc (suc (suc (suc (suc zero)))))))))) k i = Repeated
 ofNumber (suc (suc (suc (suc (suc (suc (suc (suc (suc (suc (suc zero))))))))))) k i = Repeated
-ofNumber (suc (suc (suc (suc (suc (suc (suc (suc (suc (suc (suc (suc n)))))))))))) k i = NoPowerOfTwo
+ofNumber (suc (suc (suc (suc (suc (suc (suc (suc (suc (suc (suc (suc zero)))))))))))) k i = NoPowerOfTwo
+ofNumber (suc (suc (suc (suc (suc (suc (suc (suc (suc (suc (suc (suc (suc n))))))))))))) k i = BaseWords
 
 abbrev ofOutcome : Outcome (Unit {0}) → Answer
 ofOutcome (refused n) = Refused (ofNumber (n .0) (n .1) (n .2))
@@ -193,6 +195,7 @@ of-outcome (Refused NoCodeword) = refl
 of-outcome (Refused Clearance) = refl
 of-outcome (Refused Repeated) = refl
 of-outcome (Refused NoPowerOfTwo) = refl
+of-outcome (Refused BaseWords) = refl
 
 pub same-answer : (r r' : Answer) → outcome r ≡ outcome r' → r ≡ r'
 same-answer r r' e = sym (of-outcome r) ∙ ap ofOutcome e ∙ of-outcome r'

@@ -13,7 +13,8 @@ use Rattle.job.specs.Outcome.{refused, done, outcome}
 use Rattle.job.specs.Limits.{blockSize, diagonalsSize}
 use Rattle.parameters.specs.Lent.{diagonal}
 use Rattle.code.specs.Encoding.{Encoded}
-use Rattle.fold.specs.Job.{foldWords, Folded}
+use Rattle.lines.specs.Folds.{foldWords}
+use Rattle.fold.specs.Job.{Folded}
 use Rattle.decode.specs.Decoding.{Decoded}
 
 -- the levels below depth i of the diagonals that a call of larger depth is lent

@@ -20,7 +20,7 @@ use Rattle.job.specs.Outcome.{done, outcome, kept}
 use Rattle.job.specs.Limits.{blockSize}
 use Rattle.parameters.specs.Lent.{lent, diagonal, codeword}
 use Rattle.parameters.specs.Parameters.{LegalRow}
-use Rattle.fold.specs.Job.{foldWords}
+use Rattle.lines.specs.Folds.{foldWords}
 use Rattle.decode.specs.Decoding.{judgeDecoding, Settled, message, none, Decoded, refusal, settled}
 use Rattle.decode.specs.Laws.{exactly}
 use Rattle.laws.specs.Calls.{levelsBelow, foldedLevel, mixed, ExactEncode, ExactFold, ExactDecode, ResidueBlock, ResidueMessage, Decides, TwoChallenges}

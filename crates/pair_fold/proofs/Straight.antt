@@ -62,9 +62,6 @@ module _ (𝓕 : PrimeField) (noRoot : NoRoot (𝓕 .field)) where
     abbrev n : ℕ
     n = length t
 
-    second : length t2 ≡ length t
-    second = L .diagonals .second ∙ mul-one (length t)
-
     apart : (k : ℕ) → k < n → el (getD t k 0) ≡ el (getD t2 k 0) → ⊥
     apart k h e = elements-differ 𝓕 (L .diagonals) k h (rw (mul-one k) e)
 
@@ -82,7 +79,7 @@ module _ (𝓕 : PrimeField) (noRoot : NoRoot (𝓕 .field)) where
     level-of : Level E (reals t) (reals t2) (take n (pairsOf 𝓕 w)) (drop n (pairsOf 𝓕 w))
     level-of =
         level E n (reals t) (reals t2) (take n (pairsOf 𝓕 w)) (drop n (pairsOf 𝓕 w))
-        (length-reals t) (length-reals t2 ∙ second) left (length-drop n (pairsOf 𝓕 w) ∙ omega (arith, pairs)) differ
+        (length-reals t) (length-reals t2 ∙ L .second) left (length-drop n (pairsOf 𝓕 w) ∙ omega (arith, pairs)) differ
 
     at : (k : ℕ) → k < n
         → getD (foldAlong E n a (reals t) (reals t2) (pairsOf 𝓕 w)) k (real K 𝟘)

@@ -21,6 +21,7 @@ module _ (𝓕 : PrimeField) where
   -- diagonals of n words, a block of 2 n pairs, and room for n pairs
   pub record PairFoldLent (t t2 w out : List ℕ) : Type 0 where
     pub diagonals : Diagonals 𝓕 1 (length t) t t2
+    pub second : length t2 ≡ length t
     pub whole : length w ≡ 4 * length t
     pub block : Low P w
     pub room : length out ≡ 2 * length t

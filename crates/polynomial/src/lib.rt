@@ -15,26 +15,26 @@ use job::Refusal;
 use places::inputs;
 use residue::Field;
 use residue::Residue;
-use residue::sums;
 use words::scan;
 
 pub mod eq;
 mod monomials;
+mod parts;
 
 pub enum Evaluation {
     Value(u32),
     Refused(Refusal),
 }
 
-// By the top variable: the value of the left half plus that variable times the value of the right half. When only low variables are left, it is
-// the sum of coefficients times monomials, which w has.
+// By the top variable: the value of the left half plus that variable times the value of the right half. When at most one is left beside the
+// low ones, it is made of sums of coefficients times monomials, which w has.
 fn by_top(w: &[u32; 64], m: &[u32], z: &[u32], field: Field) -> Residue
     requires { ⌜ EvaluateInput (chosen field) (now m) (now z) × Monomials (chosen field) (now w) (now z) ⌝ }
     ensures { λ v. ⌜ v .0 ≡ word (chosen field) (poly (K (chosen field)) (elements (chosen field) (now (m .entry))) (elements (chosen field) (now (z .entry)))) ⌝ }
 {
     let d = z.len();
-    if d <= monomials::LOW {
-        return sums::of_products(m, w, field);
+    if d <= monomials::LOW + 1 {
+        return parts::value_of(w, m, z, field);
     }
     let top = d - 1;
     let half = m.len() / 2;

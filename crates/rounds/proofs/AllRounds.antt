@@ -57,7 +57,7 @@ module _ (𝓕 : PrimeField) where
     pub rounds : Agrees 0 (3 * (d - i)) (openingWords 𝓕 g t t' m z r) o
     pub blocks : Agrees (3 * d + 1) (3 * d + 1 + length g * (2 ^ d - 2 ^ i)) (openingWords 𝓕 g t t' m z r) o
 
-  values-at : (f : Element → Element) (j : ℕ) → j < 3 → getD (values 𝓕 f) j (K .𝟘) ≡ f (num K j)
+  pub values-at : (f : Element → Element) (j : ℕ) → j < 3 → getD (values 𝓕 f) j (K .𝟘) ≡ f (num K j)
   values-at f zero l = refl
   values-at f (suc zero) l = refl
   values-at f (suc (suc zero)) l = refl

@@ -12,7 +12,7 @@ use Rattle.algebra.specs.WordLists.{low-words, elements, toWords, elements-word
 use Rattle.basefold.specs.Descent.{legal-at}
 use Rattle.basefold.specs.Layout.{roundAt, blockAt}
 use Rattle.descend.specs.Descending.{blockAbove, foldedAbove, FoldBlockInput}
-use Rattle.fold.specs.Laws.{fold-words}
+use Rattle.lines.specs.Laws.{fold-words}
 use Rattle.foldable.specs.Code as code
 use Rattle.foldable.specs.Fold.{fold-split}
 use Rattle.job.specs.Limits.{blockSize}

@@ -16,7 +16,7 @@ use residue::Residue;
 const FOLDED_FROM: u32 = 6;
 
 // Whether the block of level i is made from the block above it, which has to lie in the opening.
-fn folds(depth: u32, i: u32) -> bool
+pub fn folds(depth: u32, i: u32) -> bool
     requires { ⌜ i < depth ⌝ }
     ensures { λ b. ⌜ (b ≡ true → i + 1 < depth) ⌝ }
 {

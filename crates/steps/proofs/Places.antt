@@ -23,10 +23,10 @@ use Rattle.residue.specs.Elements.{elem}
 use Rattle.steps.specs.Steps.{values, roundOf, SendInput, GiveRoundInput, sentWords, GiveBlockInput}
 
 -- a part of k words from place a on: its length, and the list once it is back as ys
-part-length : (o : List ℕ) (a k : ℕ) → a + k ≤ length o → length (take (a + k - a) (drop a o)) ≡ k
+pub part-length : (o : List ℕ) (a k : ℕ) → a + k ≤ length o → length (take (a + k - a) (drop a o)) ≡ k
 part-length o a k h = simp (length-take, length-drop) (omega arith)
 
-put-part : (a k : ℕ) (o xs ys : List ℕ) → xs ≡ ys → length ys ≡ k → putMid a (a + k - a) o xs ≡ put a ys o
+pub put-part : (a k : ℕ) (o xs ys : List ℕ) → xs ≡ ys → length ys ≡ k → putMid a (a + k - a) o xs ≡ put a ys o
 put-part a k o xs ys e n =
     let size : a + k - a ≡ length ys = omega arith in
     ap₂ (λ v j. take a o ++ (v ++ drop j (drop a o))) e size ∙ ap (λ v. take a o ++ (ys ++ v)) (drop-drop (length ys) a o)

@@ -13,9 +13,9 @@ use code::encode;
 use residue::Field;
 use residue::Residue;
 
-mod fold;
+pub mod fold;
 mod send;
-mod weigh;
+pub mod weigh;
 
 // At first all of the message is left.
 pub fn begin(message: &[u32], work: &mut [u32])

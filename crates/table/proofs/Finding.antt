@@ -18,9 +18,9 @@ use Rattle.clearance.specs.Clearances.{inRange, residueOf, clearanceOf}
 use Rattle.clearance.specs.ClearanceLaws.{residue-lt}
 use Rattle.table.specs.Depth.{isPower, exponent}
 use Rattle.table.specs.DepthLaws.{exponent-is}
-use Rattle.table.specs.Passes.{across, passes, passes-coefficients, passes-table}
+use Rattle.transform.specs.Passes.{across, passes, passes-coefficients, passes-table}
 use Rattle.table.specs.Jobs.{judgeTable, MessageOf, Leaves, ToCoefficients as Coefficients, judgeMessage, tableOf, ToTable as Tables}
-use Rattle.table.specs.declared.transform.Way.the-variants.{ToCoefficients, ToTable}
+use Rattle.transform.specs.declared.Way.the-variants.{ToCoefficients, ToTable}
 
 module _ (𝓕 : PrimeField) where
   open PrimeField 𝓕 using (modulus as P, field as F)

@@ -4,10 +4,8 @@
 --     Jobs        what the two jobs answer and leave
 --     Judged      what holds where the two jobs are done, and that they are done where it holds
 --     Laws        a table has exactly one message; the two jobs undo each other
---     Passes      the transform in place, which the inner functions' contracts name
 pub mod Depth
 pub mod DepthLaws
 pub mod Jobs
 pub mod Judged
 pub mod Laws
-pub mod Passes

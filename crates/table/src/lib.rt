@@ -2,4 +2,3 @@
 mod length;
 pub mod to_coefficients;
 pub mod to_table;
-mod transform;

@@ -13,12 +13,11 @@ ghost use Rattle.clearance.specs.Clearances.{inRange, residueOf};
 ghost use Rattle.table.specs.Depth.{isPower, exponent};
 ghost use Rattle.table.specs.Jobs.{judgeTable, ToCoefficients};
 use crate::length;
-use crate::transform;
-use crate::transform::Way;
 use clearance::slices;
 use job::Answer;
 use job::Refusal;
 use residue::Field;
+use transform::Way;
 
 // The tests are made before any refusal, which costs a refused call one scan.
 fn judge(clearances: &[i32], len: usize, field: Field) -> Answer

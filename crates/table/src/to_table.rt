@@ -9,13 +9,12 @@ ghost use Rattle.residue.specs.Chosen.{chosen};
 ghost use Rattle.table.specs.Depth.{isPower};
 ghost use Rattle.table.specs.Jobs.{judgeMessage, tableOf, ToTable};
 use crate::length;
-use crate::transform;
-use crate::transform::Way;
 use clearance::slices;
 use job::Answer;
 use job::Refusal;
 use places::inputs;
 use residue::Field;
+use transform::Way;
 use words::scan;
 
 // The message counts as the block. One of its words is looked for only where a scan has found that there is one, and where the length has shown that

@@ -98,11 +98,11 @@ module _ (𝓕 : PrimeField) where
             record {
               depth = 𝓓 .depth;
               some = some;
-              wide = 𝓓 .wide;
+              wide = omega (arith, 𝓓 .wide);
               unit = is-low 𝓕 _ ex;
               behind = omega arith;
               within = omega (arith, long);
-              diagonal = omega (arith, 𝓓 .first);
+              diagonal = omega (arith, 𝓓 .first, some);
               low = 𝓓 .coding .low;
               block = rw e (low-append {v = pick (length g) 1 (2 ^ d) b} low-column (low-words 𝓕 _));
             }

@@ -10,8 +10,9 @@ use lib.Seq.{take-at}
 use borrow.Rule.Slice.PartMut.{putMid}
 use Rattle.algebra.specs.Words.{PrimeField}
 use Rattle.foldable.specs.Columns.{pick}
+use Rattle.foldable.specs.Every.{every, every-pick}
 use Rattle.job.specs.LimitLaws.{power-most}
-use Rattle.job.specs.Limits.{diagonalsSize, maxMessage}
+use Rattle.job.specs.Limits.{diagonalsSize, maxMessage, maxBlock}
 use Rattle.inversion.specs.Inversion.{gapInverses, Diagonals}
 use Rattle.inversion.specs.InversionLaws.{length-rows}
 use Rattle.inversion.specs.Strides.{stride-within}
@@ -31,17 +32,17 @@ module _ (𝓕 : PrimeField) where
         let two : 2 * 2 ^ d ≤ length g * 2 ^ d = mul-le-mul-right (2 ^ d) (𝓓 .narrow) in
         omega (arith, 𝓓 .work)
 
-    pub gathering : (0 < length g) × (length b ≡ length g * length (take n work))
+    pub gathering : (0 < length g) × (length g ≤ maxBlock) × (length g * length (take n work) < length b + length g)
     gathering =
         let l : length (take n work) ≡ n = length-take n work ∙ omega (arith, room) in
-        (omega (arith, 𝓓 .narrow), 𝓓 .size ∙ ap (λ k. length g * k) (sym (l ∙ en)))
+        (omega (arith, 𝓓 .narrow), omega (arith, 𝓓 .wide), omega (arith, 𝓓 .narrow, 𝓓 .size ∙ ap (λ k. length g * k) (sym (l ∙ en))))
 
     diagonals : Diagonals 𝓕 (length g) (n - 1) t t'
     diagonals =
         record {
           some = omega (arith, 𝓓 .narrow);
-          first = 𝓓 .first ∙ sized;
-          second = 𝓓 .second ∙ sized;
+          first = omega (arith, 𝓓 .first ∙ sized, 𝓓 .narrow);
+          second = omega (arith, 𝓓 .second ∙ sized, 𝓓 .narrow);
           low = 𝓓 .coding .low;
           low' = 𝓓 .coding .low';
           differ = λ k h. 𝓓 .apart (k * length g) (omega (arith, stride-within k (length g) (n - 1) h, 𝓓 .first ∙ sized, 𝓓 .narrow));
@@ -70,7 +71,7 @@ module _ (𝓕 : PrimeField) where
       inverting = rw length-part diagonals
 
       -- the column, and behind it the inverses
-      pub prepared : (r : List ℕ) → l ≡ pick (length g) 1 (length (take n work)) b → r ≡ gapInverses 𝓕 (length g) (length part) t t'
+      pub prepared : (r : List ℕ) → l ≡ every 0 (length g) 0 (length (take n work)) b → r ≡ gapInverses 𝓕 (length g) (length part) t t'
           → take (2 ^ d + (2 ^ d - 1)) (putMid n (n + (n - 1) - n) (l ++ drop n work) r) ≡ pick (length g) 1 (2 ^ d) b ++ gapInverses 𝓕 (length g) (2 ^ d - 1) t t'
       prepared r p q =
           let lr : length r ≡ n - 1 = ap length q ∙ length-rows 𝓕 (length part) _ ∙ length-part in
@@ -78,4 +79,4 @@ module _ (𝓕 : PrimeField) where
           let rest = drop (n + (n - 1) - n) (drop n (l ++ drop n work)) in
           ap₂ take e (ap (λ v. v ++ (r ++ rest)) (take-at l (drop n work) n length-l) ∙ sym (append-assoc l r rest))
           ∙ take-at (l ++ r) rest (n + (n - 1)) (length-append l r ∙ omega (arith, length-l))
-          ∙ ap₂ _++_ (p ∙ ap (λ k. pick (length g) 1 k b) (length-take n work ∙ omega (arith, room) ∙ en)) (q ∙ ap (λ k. gapInverses 𝓕 (length g) k t t') (length-part ∙ ap (λ k. k - 1) en))
+          ∙ ap₂ _++_ (p ∙ ap (λ k. every 0 (length g) 0 k b) (length-take n work ∙ omega (arith, room) ∙ en) ∙ sym (every-pick 0 (length g) (2 ^ d) b (omega (arith, 𝓓 .narrow)) (𝓓 .size))) (q ∙ ap (λ k. gapInverses 𝓕 (length g) k t t') (length-part ∙ ap (λ k. k - 1) en))

@@ -2,7 +2,7 @@
 use mathlib.Core.Path.{_≡_, refl, sym, ap, ap₂, _∙_}
 use mathlib.Core.List.{List, [], _∷_, _++_, append-assoc}
 use Prim.Native.Nat.{ℕ, suc, _+_, _*_, _-_, _^_, _≤_, _<_}
-use native.Mathlib.Nat.{mul-comm, two-pow-succ}
+use native.Mathlib.Nat.{mul-comm, mul-le-mul, mul-le-mul-right, two-pow-succ}
 use native.Mathlib.Numerals.{add-one}
 use native.Mathlib.Omega.{arith}
 use lib.ListN.{length, take, drop, getD, set, length-append, length-take, length-drop}
@@ -20,21 +20,22 @@ use Rattle.foldable.specs.Code.{Code}
 use Rattle.foldable.specs.Decode.{undo}
 use Rattle.foldable.specs.Encode.{below}
 use Rattle.foldable.specs.Level.{lines, slopes}
-use Rattle.job.specs.Limits.{maxRate, maxDepth, diagonalsSize, maxBlock}
-use Rattle.job.specs.LimitLaws.{power-most, product-most}
+use Rattle.job.specs.Limits.{maxDepth, diagonalsSize, maxMessage}
+use Rattle.job.specs.LimitLaws.{power-most}
 use Rattle.residue.specs.declared.Residue.{Residue}
 use Rattle.residue.specs.Elements.{elem}
 use Rattle.residue.specs.ResidueLaws.{is-low}
 use Rattle.inversion.specs.Strides.{stride-place}
 use Rattle.parameters.specs.LentLaws.{level-end, diagonals-mono}
-use Rattle.undo.specs.Steps.{LevelLent, uncrossed, slopeAt, startAt, ColumnHalfIs, ColumnLent, ColumnCode, ColumnUndone}
+use Rattle.undo.specs.Steps.{longestBase, LevelLent, uncrossed, slopeAt, startAt, ColumnHalfIs, ColumnLent, ColumnCode, ColumnUndone}
 use Rattle.undo.proofs.Lines.{left, right, slopes-are, starts-are}
 use Rattle.undo.proofs.Places.{low-row, getD-behind}
 
-pub column-half : (d c r : ℕ) → 0 < d → d ≤ maxDepth → c ≤ maxRate → r ≡ 2 ^ (d - 1) → (1 ≤ r) × (c * (r - 1) ≤ maxBlock) × ColumnHalfIs d c r (r - 1) (c * (r - 1)) (d - 1)
+pub column-half : (d c r : ℕ) → 0 < d → d ≤ maxDepth → c ≤ longestBase → r ≡ 2 ^ (d - 1) → (1 ≤ r) × (c * (r - 1) ≤ longestBase * maxMessage) × ColumnHalfIs d c r (r - 1) (c * (r - 1)) (d - 1)
 column-half d c r lo hi wide e =
     let p : 1 ≤ r = omega (arith, pow-pos (d - 1)) in
-    (p, product-most c (r - 1) wide (omega (arith, power-most (d - 1) (omega arith))), record { low-is = omega arith; half-is = e; skip-is = omega arith; off-is = ap (λ n. c * (n - 1)) e })
+    let few : r - 1 ≤ maxMessage = omega (arith, power-most (d - 1) (omega arith)) in
+    (p, mul-le-mul wide few, record { low-is = omega arith; half-is = e; skip-is = omega arith; off-is = ap (λ n. c * (n - 1)) e })
 
 module _ (𝓕 : PrimeField) where
   infixl 65 _⊟_
@@ -82,7 +83,7 @@ module _ (𝓕 : PrimeField) where
     whole = ap (λ k. 2 ^ k) deep ∙ two-pow-succ low ∙ omega (arith, 𝓗 .half-is)
 
     -- what the level's loop is lent
-    diagonal-end : off + half * c ≤ length t
+    diagonal-end : off + half * c < length t + c
     diagonal-end =
         omega (arith, 𝓗 .off-is, mul-comm half c, ap (λ n. c * n) (𝓗 .half-is), level-end c low, ap (diagonalsSize c) deep, 𝓤 .diagonal)
 
@@ -90,7 +91,9 @@ module _ (𝓕 : PrimeField) where
     half-before = omega (arith, 𝓤 .behind, whole)
 
     pub off-within : off ≤ length t
-    off-within = omega (arith, diagonal-end)
+    off-within =
+        let one : 1 * c ≤ half * c = mul-le-mul-right c (omega (arith, 𝓗 .skip-is)) in
+        omega (arith, diagonal-end)
 
     abbrev part : List ℕ
     part = take (length t - off) (drop off t)
@@ -102,7 +105,8 @@ module _ (𝓕 : PrimeField) where
         let n = 𝓤 .within in
         record {
           some = 𝓤 .some;
-          diagonal = rw (tail-part off t, length-drop off t) (omega (arith, diagonal-end));
+          wide = 𝓤 .wide;
+          diagonal = rw (tail-part off t, length-drop off t) (omega (arith, diagonal-end, off-within));
           behind = omega (arith, whole);
           within = omega (arith, whole);
           low = low-take (length t - off) (low-drop off (𝓤 .low));

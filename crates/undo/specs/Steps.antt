@@ -16,6 +16,10 @@ use Rattle.residue.specs.declared.Residue.{Residue}
 use Rattle.residue.specs.Elements.{Low, elem}
 use Rattle.parameters.specs.Lent.{lent, Coding}
 
+-- the words of the longest base block: that of four base words at the largest rate
+abbrev pub longestBase : ℕ
+longestBase = maxRate * 4
+
 -- half a column of level d, and the places of its level's inverses and diagonal
 pub record ColumnHalfIs (d c half skip off low : ℕ) : Type 0 where
   pub low-is : d ≡ low + 1
@@ -33,10 +37,11 @@ module _ (𝓕 : PrimeField) where
   open Words W using (el, val as word)
   open Vectors (vectors K) using (_⊛_)
 
-  -- two halves of n words each, the inverses of n differences from a on, and the diagonal in every c-th place of t
+  -- two halves of n words each, the inverses of n differences from a on, and the diagonal in every c-th place of t, which ends with or behind its last
   pub record LevelLent (n a c : ℕ) (t w : List ℕ) : Type 0 where
     pub some : 0 < c
-    pub diagonal : n * c ≤ length t
+    pub wide : c ≤ longestBase
+    pub diagonal : n * c < length t + c
     pub behind : n + n ≤ a
     pub within : a + n ≤ length w
     pub low : LowWords P t
@@ -52,15 +57,15 @@ module _ (𝓕 : PrimeField) where
   unfoldable pub uncrossed : ℕ → ℕ → ℕ → List ℕ → List ℕ → List ℕ
   uncrossed n a c t w = (row n (startAt n a c t w) ++ row n (slopeAt n a w)) ++ drop (n + n) w
 
-  -- a column of level d in front of w, inverses from a on, and a residue x
+  -- a column of level d in front of w, inverses from a on, and a residue x; t holds every c-th place of the diagonals of all levels, from the first on
   pub record ColumnLent (d a : ℕ) (x : Residue) (c : ℕ) (t w : List ℕ) : Type 0 where
     pub depth : d ≤ maxDepth
     pub some : 0 < c
-    pub wide : c ≤ maxRate
+    pub wide : c ≤ longestBase
     pub unit : Low 𝓕 x
     pub behind : 2 ^ d ≤ a
     pub within : a + (2 ^ d - 1) ≤ length w
-    pub diagonal : diagonalsSize c d ≤ length t
+    pub diagonal : diagonalsSize c d < length t + c
     pub low : LowWords P t
     pub block : LowWords P w
 

@@ -1,13 +1,14 @@
-// The first column of a block.
+// One column of a block.
 ghost use mathlib.Core.Path.{_≡_};
-ghost use Prim.Native.Nat.{_*_, _<_};
+ghost use Prim.Native.Nat.{_+_, _*_, _<_, _≤_};
 ghost use lib.ListN.{length};
-ghost use Rattle.foldable.specs.Columns.{pick};
+ghost use Rattle.foldable.specs.Every.{every};
+ghost use Rattle.job.specs.Limits.{maxBlock};
 
-// The first word of each base block of c words.
+// Every c-th word, from the first on. The block may begin inside a base block, at the column that is wanted.
 pub fn gather(c: usize, block: &[u32], out: &mut [u32])
-    requires { ⌜ (0 < c) × (length (now block) ≡ c * length (now out)) ⌝ }
-    ensures { λ _. ⌜ now (out .exit) ≡ pick c 1 (length (now (out .entry))) (now (block .entry)) ⌝ }
+    requires { ⌜ (0 < c) × (c ≤ maxBlock) × (c * length (now out) < length (now block) + c) ⌝ }
+    ensures { λ _. ⌜ now (out .exit) ≡ every 0 c 0 (length (now (out .entry))) (now (block .entry)) ⌝ }
 {
     let mut i = 0;
     let mut p = 0;

@@ -2,8 +2,8 @@
 ghost use mathlib.Core.Path.{_≡_};
 ghost use Prim.Native.Nat.{_<_, _≤_};
 ghost use Rattle.residue.specs.Chosen.{chosen};
-ghost use Rattle.job.specs.Limits.{maxDepth, maxRate};
-ghost use Rattle.undo.specs.Steps.{LevelLent, uncrossed, ColumnHalfIs, ColumnLent, ColumnUndone};
+ghost use Rattle.job.specs.Limits.{maxDepth};
+ghost use Rattle.undo.specs.Steps.{longestBase, LevelLent, uncrossed, ColumnHalfIs, ColumnLent, ColumnUndone};
 use residue::Field;
 use residue::Residue;
 use words::entry;
@@ -36,7 +36,7 @@ pub struct ColumnHalf {
 }
 
 fn column_half(depth: u32, c: usize) -> ColumnHalf
-    requires { ⌜ (0 < depth) × (depth ≤ maxDepth) × (c ≤ maxRate) ⌝ }
+    requires { ⌜ (0 < depth) × (depth ≤ maxDepth) × (c ≤ longestBase) ⌝ }
     ensures { λ r. ⌜ ColumnHalfIs depth c (r .half) (r .skip) (r .off) (r .low) ⌝ }
 {
     let low = depth - 1;

@@ -1,16 +1,13 @@
--- A fold check by its words, and where a query goes on. Assumes nothing.
-use mathlib.Core.Path.{_≡_, refl, sym, ap, _∙_}
-use mathlib.Core.Bool.{cond}
+-- A fold check by its words. Assumes nothing.
+use mathlib.Core.Path.{_≡_, sym, ap, _∙_}
 use mathlib.Core.List.{List}
-use Prim.Native.Nat.{ℕ, zero, suc, _+_, _*_, _-_, _^_, _≤_, _<_}
+use Prim.Native.Nat.{ℕ, suc, _+_, _*_, _^_, _≤_, _<_}
 use native.Mathlib.Numerals.{add-one}
 use native.Mathlib.Omega.{arith}
-use lib.Dec.{eqb, leb}
+use lib.Dec.{eqb}
 use lib.ListN.{length, getD}
-use borrow.Author.Tests.{le-leb, lt-leb}
 use Rattle.algebra.specs.Ring.{Ring}
 use Rattle.algebra.specs.Field.{Field}
-use Rattle.algebra.specs.Flags.{cond-true, cond-false}
 use Rattle.algebra.specs.Lists.{differ-at}
 use Rattle.algebra.specs.Words.{Words, PrimeField}
 use Rattle.algebra.specs.WordLists.{elements, length-elements, getD-elements}
@@ -18,8 +15,7 @@ use Rattle.foldable.specs.Code.{Code, line}
 use Rattle.foldable.specs.Encode.{double}
 use Rattle.foldable.specs.Line.{line-cross}
 use Rattle.basefold.specs.Layout.{blockOf}
-use Rattle.basefold.specs.Honest.{next-within}
-use Rattle.basefold.specs.Checks.{next, same, foldHolds}
+use Rattle.basefold.specs.Checks.{same, foldHolds}
 use Rattle.job.specs.Limits.{blockSize, diagonalsSize}
 use Rattle.residue.specs.Elements.{elem}
 use Rattle.residue.specs.ResidueLaws.{stands}
@@ -27,35 +23,8 @@ use Rattle.residue.specs.declared.Residue.{Residue}
 use Rattle.parameters.specs.Lent.{lent, diagonal}
 use Rattle.parameters.specs.LentLaws.{length-diagonal, getD-diagonal, level-within}
 use Rattle.verdict.specs.Equality.{same-other}
-use Rattle.walks.specs.Steps.{LinePoints, FoldAt, lineAt, BlocksInput, PlaceBelow}
+use Rattle.walks.specs.Steps.{LinePoints, FoldAt, lineAt, BlocksInput}
 use Rattle.walks.proofs.ReadBlocks.{word-at, low-at, length-at}
-
--- where a query goes on
-pub next-zero : (n i u : ℕ) → i ≡ 0 → u ≡ next n i u
-unfolding next
-next-zero n zero u e = refl
-next-zero n (suc i) u e = absurd (omega arith)
-
-next-at : (n i u : ℕ) → next n (suc i) u ≡ cond (leb (n * 2 ^ (suc i - 1)) u) (u - n * 2 ^ (suc i - 1)) u
-unfolding next
-next-at n i u = let one : suc i - 1 ≡ i = omega arith in sym (ap (λ k. cond (leb (n * 2 ^ k) u) (u - n * 2 ^ k) u) one)
-
-pub next-less : (n i u : ℕ) {k : ℕ} → (i ≡ 0 → ⊥) → k ≡ blockSize n (i - 1) → k ≤ u → u - k ≡ next n i u
-next-less n zero u z e h = absurd (z refl)
-next-less n (suc i) u {k} z e h = sym (next-at n i u ∙ rw (← e) (cond-true (u - k) u (le-leb k u h)))
-
-pub next-same : (n i u : ℕ) {k : ℕ} → (i ≡ 0 → ⊥) → k ≡ blockSize n (i - 1) → u < k → u ≡ next n i u
-next-same n zero u z e h = absurd (z refl)
-next-same n (suc i) u {k} z e h = sym (next-at n i u ∙ rw (← e) (cond-false (u - k) u (lt-leb k u h)))
-
--- a place of the block below level i, and where it goes on, stays one
-pub start-below : (n i u : ℕ) → 0 < i → PlaceBelow n i u → u < blockSize n (i - 1)
-start-below n zero u h s = absurd (omega arith)
-start-below n (suc i) u h s = let one : suc i - 1 ≡ i = omega arith in rw one s
-
-pub next-start : (n i u : ℕ) → u < blockSize n i → PlaceBelow n i (next n i u)
-next-start n zero u h = tt
-next-start n (suc i) u h = next-within n i u h
 
 module _ (𝓕 : PrimeField) where
   infixl 65 _⊟_

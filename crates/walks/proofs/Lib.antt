@@ -2,4 +2,3 @@
 pub mod ReadBlocks
 pub mod Bases
 pub mod Folded
-pub mod Walks

@@ -5,10 +5,10 @@ use std::fmt;
 /// The answer of a job: the order's number and its named places, else zeros.
 #[derive(Clone, Copy, PartialEq, Eq, Debug)]
 pub struct Answer {
-    /// 0 is done or accepted, 1 to 9, 11 and 12 a refusal, 20 to 23 a failed check.
+    /// 0 is done or accepted, 1 to 9 and 11 to 13 a refusal, 20 to 23 a failed check.
     pub number: u32,
-    /// 4: the index of the word. 5: that of the zero. 6: that of the equal pair. 20: i. 22: j. 23: the
-    /// query's position.
+    /// 4: the index of the word. 5: that of the zero, and 0 for several rows. 6: that of the equal
+    /// pair. 20: i. 22: j. 23: the query's position.
     pub first: u32,
     /// 4: the input. 23: the level.
     pub second: u32,
@@ -48,7 +48,7 @@ pub struct Reading {
 /// What 4 names. The numbers are the order's, and the inputs are judged in their order.
 #[derive(Clone, Copy, PartialEq, Eq, PartialOrd, Ord, Debug)]
 pub enum Input {
-    /// Base row.
+    /// Base row or rows.
     G = 1,
     /// T, as lent.
     T = 2,
@@ -84,6 +84,8 @@ pub enum Refusal {
     },
     /// 5: a zero in the base row, at this index.
     ZeroInRow(usize),
+    /// 5: several base rows whose first columns, as many as the rows, have no inverse.
+    NoInverse,
     /// 6: T and T' equal at this index of both as lent.
     EqualPair(usize),
     /// 7: the query list or one of its places.
@@ -96,6 +98,8 @@ pub enum Refusal {
     Repeated,
     /// 12: a rate to fill that is no power of two.
     NoPowerOfTwo,
+    /// 13: a number of words of a base message that the job does not take.
+    BaseWords,
 }
 
 impl From<Refusal> for Answer {
@@ -106,12 +110,14 @@ impl From<Refusal> for Answer {
             Refusal::Length => (3, 0, 0),
             Refusal::Word { input, index } => (4, index, input as u32),
             Refusal::ZeroInRow(index) => (5, index, 0),
+            Refusal::NoInverse => (5, 0, 0),
             Refusal::EqualPair(index) => (6, index, 0),
             Refusal::Queries => (7, 0, 0),
             Refusal::NoCodeword => (8, 0, 0),
             Refusal::Clearance => (9, 0, 0),
             Refusal::Repeated => (11, 0, 0),
             Refusal::NoPowerOfTwo => (12, 0, 0),
+            Refusal::BaseWords => (13, 0, 0),
         };
         Answer {
             number,

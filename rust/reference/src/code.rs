@@ -1,12 +1,13 @@
-//! The code as lent and as judged, and its generator matrix.
+//! The code with one base row as lent, any code as judged, and its generator matrix.
 
-use crate::answer::{Input, Refusal};
 use crate::field::Field;
-use crate::judge;
+use crate::general::{GeneralCode, GeneralLevel};
+use crate::layout::Layout;
+use crate::linear::Matrix;
+use crate::parameters::Parameters;
 use crate::residue::Residue;
-use crate::sizes::Sizes;
 
-/// The code as a call lends it: raw numbers and words.
+/// The code as a call lends it that has base messages of one word: raw numbers and words.
 #[derive(Clone, Copy, Debug)]
 pub struct LentCode<'a> {
     /// Field.
@@ -23,7 +24,7 @@ pub struct LentCode<'a> {
     pub t2: &'a [u32],
 }
 
-/// One level of the diagonals, as a call of folding lends it.
+/// One level of the diagonals, as a call of folding lends it, with base messages of one word.
 #[derive(Clone, Copy, Debug)]
 pub struct LentLevel<'a> {
     /// Field.
@@ -38,47 +39,36 @@ pub struct LentLevel<'a> {
     pub t2: &'a [u32],
 }
 
-impl LentCode<'_> {
-    /// Refusals 1 to 6 of a call that lends the code and more: `lengths` gives the other slices'
-    /// lengths, found and due; `read` is every other slice of words that is read, in the order of the
-    /// inputs. The modulus is that of the lent field.
-    pub fn judge<const P: u32, const N: usize>(
-        &self,
-        lengths: impl Fn(&Sizes) -> Vec<(usize, usize)>,
-        read: [(Input, &[u32]); N],
-    ) -> Result<(Code<P>, [Vec<Residue<P>>; N]), Refusal> {
-        assert_eq!(P, self.field.modulus());
-        let depth = judge::depth(self.depth)?;
-        let rate = judge::rate(self.rate)?;
-        let sizes = Sizes { depth, rate };
-        judge::lengths(&[
-            (self.g.len(), rate),
-            (self.t.len(), sizes.diagonals()),
-            (self.t2.len(), sizes.diagonals()),
-        ])?;
-        judge::lengths(&lengths(&sizes))?;
-        let code = Code {
-            sizes,
-            g: judge::words(Input::G, self.g)?,
-            t: judge::words(Input::T, self.t)?,
-            t2: judge::words(Input::T2, self.t2)?,
-        };
-        let mut words = [(); N].map(|()| Vec::new());
-        for (residues, (input, slice)) in words.iter_mut().zip(read) {
-            *residues = judge::words(input, slice)?;
+impl<'a> From<LentCode<'a>> for GeneralCode<'a> {
+    fn from(lent: LentCode<'a>) -> GeneralCode<'a> {
+        GeneralCode {
+            field: lent.field,
+            parameters: Parameters::one(lent.depth, lent.rate),
+            g: lent.g,
+            t: lent.t,
+            t2: lent.t2,
         }
-        judge::row(&code.g)?;
-        judge::diagonals(&code.t, &code.t2)?;
-        Ok((code, words))
+    }
+}
+
+impl<'a> From<LentLevel<'a>> for GeneralLevel<'a> {
+    fn from(lent: LentLevel<'a>) -> GeneralLevel<'a> {
+        GeneralLevel {
+            field: lent.field,
+            parameters: Parameters::one(lent.level, lent.rate),
+            t: lent.t,
+            t2: lent.t2,
+        }
     }
 }
 
 /// A legal code.
 #[derive(Clone, Debug)]
 pub struct Code<const P: u32> {
-    /// Depth and rate.
-    pub sizes: Sizes,
-    /// Base row, no zero in it.
+    /// Depth, rate and k0.
+    pub sizes: Layout,
+    /// The base rows, one after another: one without a zero, or several whose first columns have an
+    /// inverse.
     pub g: Vec<Residue<P>>,
     /// T, all levels.
     pub t: Vec<Residue<P>>,
@@ -97,11 +87,24 @@ impl<const P: u32> Code<P> {
         &self.t2[self.sizes.diagonal(level)]
     }
 
-    /// The generator matrix of a level, row by row, built as its definition says: the base row, and
-    /// above it the blocks G, G over G*T, G*T'.
-    pub fn matrix(&self, level: usize) -> Vec<Vec<Residue<P>>> {
+    /// The generator matrix of level 0: row b is for word b of a base message.
+    pub fn base(&self) -> Matrix<P> {
+        let rows = self.g.chunks(self.sizes.block(0));
+        rows.map(<[_]>::to_vec).collect()
+    }
+
+    /// The first k0 columns of the base rows.
+    pub fn leading(&self) -> Matrix<P> {
+        let mut rows = self.base();
+        rows.iter_mut().for_each(|row| row.truncate(self.sizes.k0));
+        rows
+    }
+
+    /// The generator matrix of a level, row by row, built as its definition says: the base rows, and
+    /// above them the blocks G, G over G*T, G*T'.
+    pub fn matrix(&self, level: usize) -> Matrix<P> {
         if level == 0 {
-            return vec![self.g.clone()];
+            return self.base();
         }
         let lower = self.matrix(level - 1);
         let (t, t2) = (self.t(level - 1), self.t2(level - 1));
@@ -122,16 +125,23 @@ pub fn times<const P: u32>(row: &[Residue<P>], diagonal: &[Residue<P>]) -> Vec<R
 #[cfg(test)]
 pub(crate) mod tests {
     use super::*;
+    use crate::answer::Input;
     use crate::field::FIRST;
+    use crate::judge;
     use crate::sample::{Rng, Style};
+    use crate::sizes::Sizes;
 
     /// A legal code of these sizes.
-    pub fn sample_code<const P: u32>(rng: &mut Rng, sizes: Sizes, style: Style) -> Code<P> {
-        let [g, t, t2] = rng.code(&sizes, style);
-        let lent = LentCode {
+    pub fn sample_code<const P: u32>(
+        rng: &mut Rng,
+        sizes: impl Into<Layout>,
+        style: Style,
+    ) -> Code<P> {
+        let layout = sizes.into();
+        let [g, t, t2] = rng.general_code(&layout, style);
+        let lent = GeneralCode {
             field: rng.field(),
-            depth: sizes.depth as u32,
-            rate: sizes.rate as u32,
+            parameters: layout.parameters(),
             g: &g,
             t: &t,
             t2: &t2,
@@ -139,11 +149,14 @@ pub(crate) mod tests {
         lent.judge::<P, 0>(|_| Vec::new(), []).expect("legal").0
     }
 
+    fn residues(words: &[u32]) -> Vec<Residue<FIRST>> {
+        judge::words(Input::Block, words).unwrap()
+    }
+
     #[test]
     fn matrix_of_the_order() {
-        let residues = |words: &[u32]| judge::words::<FIRST>(Input::Block, words).unwrap();
         let code = Code {
-            sizes: Sizes { depth: 1, rate: 2 },
+            sizes: Sizes { depth: 1, rate: 2 }.into(),
             g: residues(&[1, 1]),
             t: residues(&[2, 3]),
             t2: residues(&[2_147_483_645, 2_147_483_644]),
@@ -151,6 +164,28 @@ pub(crate) mod tests {
         let rows = [
             residues(&[1, 1, 1, 1]),
             residues(&[2, 3, 2_147_483_645, 2_147_483_644]),
+        ];
+        assert_eq!(code.matrix(1), rows);
+    }
+
+    /// Two base rows of four words; every word by hand.
+    #[test]
+    fn matrix_over_two_base_rows() {
+        let code = Code {
+            sizes: Layout {
+                depth: 1,
+                rate: 2,
+                k0: 2,
+            },
+            g: residues(&[1, 0, 1, 1, 0, 1, 1, 2]),
+            t: residues(&[1, 2, 3, 4]),
+            t2: residues(&[5, 6, 7, 8]),
+        };
+        let rows = [
+            residues(&[1, 0, 1, 1, 1, 0, 1, 1]),
+            residues(&[0, 1, 1, 2, 0, 1, 1, 2]),
+            residues(&[1, 0, 3, 4, 5, 0, 7, 8]),
+            residues(&[0, 2, 3, 8, 0, 6, 7, 16]),
         ];
         assert_eq!(code.matrix(1), rows);
     }

@@ -3,7 +3,9 @@
 use crate::answer::{Answer, Input, Refusal};
 use crate::code::{Code, LentCode};
 use crate::encode::codeword;
+use crate::general::GeneralCode;
 use crate::judge;
+use crate::linear::{inverse, row_times, Matrix};
 use crate::over;
 use crate::residue::Residue;
 
@@ -13,42 +15,63 @@ use crate::residue::Residue;
 /// that message; so the block is a codeword just when the undone message encodes to it.
 pub fn message_of<const P: u32>(code: &Code<P>, block: &[Residue<P>]) -> Option<Vec<Residue<P>>> {
     let differences = code.t.iter().zip(&code.t2).map(|(&t, &t2)| t2 - t);
-    let inverses: Vec<Residue<P>> = differences
+    let slopes: Vec<Residue<P>> = differences
         .map(|difference| difference.inverse().expect("T and T' differ"))
         .collect();
+    let inverses = Inverses {
+        slopes,
+        base: inverse(&code.leading()).expect("a legal base"),
+    };
     let message = undo(code, &inverses, code.sizes.depth, block);
     (codeword(code, code.sizes.depth, &message) == block).then_some(message)
 }
 
-/// Undoes the code: at each place the slope of the line is Enc(r), its value at 0 is Enc(l).
-/// `inverses` holds 1/(T' - T) in the layout of T.
+/// What a block is undone with.
+struct Inverses<const P: u32> {
+    /// 1/(T' - T) in the layout of T.
+    slopes: Vec<Residue<P>>,
+    /// The inverse of the first k0 columns of the base rows.
+    base: Matrix<P>,
+}
+
+/// Undoes the code: at each place the slope of the line is Enc(r), its value at 0 is Enc(l). The first
+/// k0 words of a base block determine the base message.
 fn undo<const P: u32>(
     code: &Code<P>,
-    inverses: &[Residue<P>],
+    inverses: &Inverses<P>,
     level: usize,
     block: &[Residue<P>],
 ) -> Vec<Residue<P>> {
     if level == 0 {
-        let inverse = code.g[0].inverse().expect("no zero in the base row");
-        return vec![block[0] * inverse];
+        return row_times(&block[..code.sizes.k0], &inverses.base);
     }
     let t = code.t(level - 1);
-    let inverses_here = &inverses[code.sizes.diagonal(level - 1)];
+    let slopes = &inverses.slopes[code.sizes.diagonal(level - 1)];
     let (low, high) = block.split_at(t.len());
-    let slope = |j: usize| (high[j] - low[j]) * inverses_here[j];
+    let slope = |j: usize| (high[j] - low[j]) * slopes[j];
     let right: Vec<Residue<P>> = (0..t.len()).map(slope).collect();
     let left: Vec<Residue<P>> = (0..t.len()).map(|j| low[j] - t[j] * right[j]).collect();
     let halves = [&left, &right].map(|half| undo(code, inverses, level - 1, half));
     halves.concat()
 }
 
-/// The decoding job. Refusals 1 to 6 and 8. The work buffer is zero after success and after 8.
+/// The decoding job for base messages of one word. Refusals 1 to 6 and 8.
 pub fn decode(lent: LentCode, block: &[u32], message: &mut [u32], work: &mut [u32]) -> Answer {
+    decode_with(lent.into(), block, message, work)
+}
+
+/// The decoding job. Refusals 1, 2, 13, 3 to 6 and 8. The work buffer is zero after success and after 8.
+pub fn decode_with(
+    lent: GeneralCode,
+    block: &[u32],
+    message: &mut [u32],
+    work: &mut [u32],
+) -> Answer {
     over!(lent.field, P => try_decode::<P>(lent, block, message, work)).into()
 }
 
 fn try_decode<const P: u32>(
-    lent: LentCode,
+    lent: GeneralCode,
     block: &[u32],
     message: &mut [u32],
     work: &mut [u32],
@@ -74,9 +97,9 @@ mod tests {
     use super::*;
     use crate::code::tests::sample_code;
     use crate::field::Field;
+    use crate::layout::Layout;
     use crate::over_both;
-    use crate::sample::{Rng, STYLES};
-    use crate::sizes::Sizes;
+    use crate::sample::{Rng, Style, STYLES};
 
     over_both!(codewords_and_every_single_word_moved any_block work_and_result);
 
@@ -115,32 +138,39 @@ mod tests {
 
     fn codewords_and_every_single_word_moved<const P: u32>() {
         let mut rng = Rng::new(Field::of(P), 11);
-        for depth in 0..=3 {
-            for rate in [2, 3, 5, 16] {
-                for style in STYLES {
-                    let code = sample_code::<P>(&mut rng, Sizes { depth, rate }, style);
-                    let message = rng.residues(1 << depth, style);
-                    let block = codeword(&code, depth, &message);
-                    assert_eq!(message_of(&code, &block), Some(message.clone()));
-                    assert_eq!(message_by_elimination(&code, &block), Some(message));
-                    for j in 0..block.len() {
-                        let mut moved = block.clone();
-                        moved[j] = moved[j] + Residue::ONE;
-                        let found = message_of(&code, &moved);
-                        assert_eq!(found, message_by_elimination(&code, &moved));
+        for (k0, deepest) in [(1, 3), (2, 2), (4, 1)] {
+            for depth in 0..=deepest {
+                for rate in [2, 3, 5, 16] {
+                    for style in STYLES {
+                        every_word_moved::<P>(&mut rng, Layout { depth, rate, k0 }, style);
                     }
                 }
             }
         }
     }
 
+    fn every_word_moved<const P: u32>(rng: &mut Rng, layout: Layout, style: Style) {
+        let code = sample_code::<P>(rng, layout, style);
+        let message = rng.residues(layout.message(), style);
+        let block = codeword(&code, layout.depth, &message);
+        assert_eq!(message_of(&code, &block), Some(message.clone()));
+        assert_eq!(message_by_elimination(&code, &block), Some(message));
+        for j in 0..block.len() {
+            let mut moved = block.clone();
+            moved[j] = moved[j] + Residue::ONE;
+            let found = message_of(&code, &moved);
+            assert_eq!(found, message_by_elimination(&code, &moved));
+        }
+    }
+
     fn any_block<const P: u32>() {
         let mut rng = Rng::new(Field::of(P), 12);
         let mut codewords = 0;
-        for _ in 0..300 {
-            let sizes = Sizes {
+        for k in 0..900 {
+            let sizes = Layout {
                 depth: rng.below(3),
                 rate: 2,
+                k0: [1, 2, 4][k / 300],
             };
             let style = rng.pick(&STYLES);
             let code = sample_code::<P>(&mut rng, sizes, style);

@@ -2,7 +2,9 @@
 
 use crate::answer::{Answer, Input, Refusal};
 use crate::code::{times, Code, LentCode};
+use crate::general::GeneralCode;
 use crate::judge;
+use crate::linear::row_times;
 use crate::over;
 use crate::residue::Residue;
 use crate::LITERAL_DEPTH;
@@ -13,26 +15,17 @@ pub fn by_matrix<const P: u32>(
     level: usize,
     message: &[Residue<P>],
 ) -> Vec<Residue<P>> {
-    let matrix = code.matrix(level);
-    assert_eq!(matrix.len(), message.len());
-    let column = |j| {
-        message
-            .iter()
-            .zip(&matrix)
-            .map(|(&m, row)| m * row[j])
-            .sum()
-    };
-    (0..code.sizes.block(level)).map(column).collect()
+    row_times(message, &code.matrix(level))
 }
 
-/// The same by halves: Enc(l) + T*Enc(r), then Enc(l) + T'*Enc(r).
+/// The same by halves, down to base messages: Enc(l) + T*Enc(r), then Enc(l) + T'*Enc(r).
 pub fn by_halves<const P: u32>(
     code: &Code<P>,
     level: usize,
     message: &[Residue<P>],
 ) -> Vec<Residue<P>> {
     if level == 0 {
-        return code.g.iter().map(|&g| message[0] * g).collect();
+        return row_times(message, &code.base());
     }
     let (l, r) = message.split_at(message.len() / 2);
     let left = by_halves(code, level - 1, l);
@@ -57,13 +50,18 @@ pub fn codeword<const P: u32>(
     }
 }
 
-/// The encoding job. Refusals 1 to 6.
+/// The encoding job for base messages of one word. Refusals 1 to 6.
 pub fn encode(lent: LentCode, message: &[u32], block: &mut [u32]) -> Answer {
+    encode_with(lent.into(), message, block)
+}
+
+/// The encoding job. Refusals 1, 2, 13, 3 to 6.
+pub fn encode_with(lent: GeneralCode, message: &[u32], block: &mut [u32]) -> Answer {
     over!(lent.field, P => try_encode::<P>(lent, message, block)).into()
 }
 
 fn try_encode<const P: u32>(
-    lent: LentCode,
+    lent: GeneralCode,
     message: &[u32],
     block: &mut [u32],
 ) -> Result<(), Refusal> {
@@ -85,6 +83,7 @@ mod tests {
     use super::*;
     use crate::code::tests::sample_code;
     use crate::field::Field;
+    use crate::layout::Layout;
     use crate::over_both;
     use crate::sample::{Rng, STYLES};
     use crate::sizes::Sizes;
@@ -93,13 +92,16 @@ mod tests {
 
     fn both_forms_agree<const P: u32>() {
         let mut rng = Rng::new(Field::of(P), 7);
-        for depth in 0..=7 {
-            for rate in 2..=16 {
-                for style in STYLES {
-                    let code = sample_code::<P>(&mut rng, Sizes { depth, rate }, style);
-                    let message = rng.residues(1 << depth, style);
-                    let literal = by_matrix(&code, depth, &message);
-                    assert_eq!(by_halves(&code, depth, &message), literal);
+        for k0 in [1, 2, 4] {
+            for depth in 0..=7 - k0 / 2 {
+                for rate in 2..=16 {
+                    let layout = Layout { depth, rate, k0 };
+                    for style in STYLES {
+                        let code = sample_code::<P>(&mut rng, layout, style);
+                        let message = rng.residues(layout.message(), style);
+                        let literal = by_matrix(&code, depth, &message);
+                        assert_eq!(by_halves(&code, depth, &message), literal);
+                    }
                 }
             }
         }
@@ -113,7 +115,7 @@ mod tests {
             let lower = Sizes { depth, ..sizes };
             let message = rng.residues(1 << depth, STYLES[0]);
             let small = Code {
-                sizes: lower,
+                sizes: lower.into(),
                 g: code.g.clone(),
                 t: code.t[..lower.diagonals()].to_vec(),
                 t2: code.t2[..lower.diagonals()].to_vec(),

@@ -2,10 +2,11 @@
 
 use crate::answer::{Answer, Input, Refusal};
 use crate::code::LentLevel;
+use crate::general::GeneralLevel;
 use crate::judge;
+use crate::layout::Layout;
 use crate::over;
 use crate::residue::Residue;
-use crate::sizes::Sizes;
 
 /// The value at `a` of the straight line through (x, w) and (x2, w2). The two places must differ:
 /// the inverse of zero is never made up.
@@ -33,21 +34,27 @@ pub fn fold_block<const P: u32>(
     (0..t.len()).map(place).collect()
 }
 
-/// The folding job. Refusals 1, 2, 3, 4, 6.
+/// The folding job for base messages of one word. Refusals 1, 2, 3, 4, 6.
 pub fn fold(lent: LentLevel, block: &[u32], challenge: u32, out: &mut [u32]) -> Answer {
+    fold_with(lent.into(), block, challenge, out)
+}
+
+/// The folding job. Refusals 1, 2, 13, 3, 4, 6.
+pub fn fold_with(lent: GeneralLevel, block: &[u32], challenge: u32, out: &mut [u32]) -> Answer {
     over!(lent.field, P => try_fold::<P>(lent, block, challenge, out)).into()
 }
 
 fn try_fold<const P: u32>(
-    lent: LentLevel,
+    lent: GeneralLevel,
     block: &[u32],
     challenge: u32,
     out: &mut [u32],
 ) -> Result<(), Refusal> {
-    let depth = judge::upper_level(lent.level)?;
-    let rate = judge::rate(lent.rate)?;
-    let sizes = Sizes { depth, rate };
-    let (upper, lower) = (sizes.block(depth), sizes.block(depth - 1));
+    let depth = judge::upper_level(lent.parameters.depth, lent.parameters.k0)?;
+    let rate = judge::rate(lent.parameters.rate)?;
+    let k0 = judge::k0(lent.parameters.k0)?;
+    let layout = Layout { depth, rate, k0 };
+    let (upper, lower) = (layout.block(depth), layout.block(depth - 1));
     judge::lengths(&[
         (lent.t.len(), lower),
         (lent.t2.len(), lower),
@@ -70,7 +77,7 @@ mod tests {
     use crate::encode::by_matrix;
     use crate::field::Field;
     use crate::over_both;
-    use crate::sample::{Rng, STYLES};
+    use crate::sample::{Rng, Style, STYLES};
 
     over_both!(the_line_meets_both_places the_fold_of_a_codeword_encodes_the_folded_message refusals);
 
@@ -93,20 +100,28 @@ mod tests {
 
     fn the_fold_of_a_codeword_encodes_the_folded_message<const P: u32>() {
         let mut rng = Rng::new(Field::of(P), 10);
-        for depth in 1..=5 {
-            for rate in 2..=16 {
-                for style in STYLES {
-                    let code = sample_code::<P>(&mut rng, Sizes { depth, rate }, style);
-                    let message = rng.residues(1 << depth, style);
-                    let a = rng.styled(style);
-                    let block = by_matrix(&code, depth, &message);
-                    let folded = fold_block(code.t(depth - 1), code.t2(depth - 1), &block, a);
-                    let (l, r) = message.split_at(message.len() / 2);
-                    let small: Vec<_> = l.iter().zip(r).map(|(&l, &r)| l + a * r).collect();
-                    assert_eq!(folded, by_matrix(&code, depth - 1, &small));
+        for (k0, deepest) in [(1, 5), (2, 4), (4, 3)] {
+            for depth in 1..=deepest {
+                for rate in 2..=16 {
+                    let layout = Layout { depth, rate, k0 };
+                    for style in STYLES {
+                        one_fold::<P>(&mut rng, layout, style);
+                    }
                 }
             }
         }
+    }
+
+    fn one_fold<const P: u32>(rng: &mut Rng, layout: Layout, style: Style) {
+        let depth = layout.depth;
+        let code = sample_code::<P>(rng, layout, style);
+        let message = rng.residues(layout.message(), style);
+        let a = rng.styled(style);
+        let block = by_matrix(&code, depth, &message);
+        let folded = fold_block(code.t(depth - 1), code.t2(depth - 1), &block, a);
+        let (l, r) = message.split_at(message.len() / 2);
+        let small: Vec<_> = l.iter().zip(r).map(|(&l, &r)| l + a * r).collect();
+        assert_eq!(folded, by_matrix(&code, depth - 1, &small));
     }
 
     fn refusals<const P: u32>() {

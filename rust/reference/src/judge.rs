@@ -1,9 +1,12 @@
 //! The refusals, one function per number. A job calls them in ascending order, so that the
-//! smallest number that applies is the one given.
+//! smallest number that applies is the one given; 13 alone stands elsewhere, right after 2.
 
 use crate::answer::{Input, Refusal};
+use crate::code::Code;
+use crate::layout::Layout;
+use crate::linear::inverse;
 use crate::residue::Residue;
-use crate::sizes::{Sizes, MAX_DEPTH, MAX_QUERIES, MAX_TABLE, RATES};
+use crate::sizes::{K0S, MAX_DEPTH, MAX_QUERIES, MAX_TABLE, RATES};
 use std::collections::HashSet;
 
 fn demand(holds: bool, refusal: Refusal) -> Result<(), Refusal> {
@@ -14,21 +17,33 @@ fn demand(holds: bool, refusal: Refusal) -> Result<(), Refusal> {
     }
 }
 
-/// 1: the depth is 0 to 20.
-pub fn depth(depth: u32) -> Result<usize, Refusal> {
-    demand(depth <= MAX_DEPTH, Refusal::Size)?;
+/// What 1 takes for k0: an illegal one counts as 1, since 13 comes later.
+fn base_words(k0: u32) -> usize {
+    if K0S.contains(&k0) {
+        k0 as usize
+    } else {
+        1
+    }
+}
+
+/// 1: a message of k0 * 2^d words has at most 1048576.
+pub fn depth(depth: u32, k0: u32) -> Result<usize, Refusal> {
+    // Without the first comparison the second one could overflow.
+    let legal = depth <= MAX_DEPTH && base_words(k0) << depth <= MAX_TABLE;
+    demand(legal, Refusal::Size)?;
     Ok(depth as usize)
 }
 
-/// 1, for folding: the upper level is 1 to 20.
-pub fn upper_level(level: u32) -> Result<usize, Refusal> {
-    demand((1..=MAX_DEPTH).contains(&level), Refusal::Size)?;
-    Ok(level as usize)
+/// 1, for folding: the upper level is a depth, and not 0.
+pub fn upper_level(level: u32, k0: u32) -> Result<usize, Refusal> {
+    demand(level >= 1, Refusal::Size)?;
+    depth(level, k0)
 }
 
-/// 1, for tables: the length is a power of two from 1 to 1048576. Gives the depth.
-pub fn table_length(length: usize) -> Result<usize, Refusal> {
-    let legal = length.is_power_of_two() && length <= MAX_TABLE;
+/// 1, for tables: the length is k0 * 2^d for some d, and at most 1048576. Gives the variables, the low
+/// ones and d.
+pub fn table_length(length: usize, k0: u32) -> Result<usize, Refusal> {
+    let legal = length.is_power_of_two() && (base_words(k0)..=MAX_TABLE).contains(&length);
     demand(legal, Refusal::Size)?;
     Ok(length.trailing_zeros() as usize)
 }
@@ -37,6 +52,17 @@ pub fn table_length(length: usize) -> Result<usize, Refusal> {
 pub fn rate(rate: u32) -> Result<usize, Refusal> {
     demand(RATES.contains(&rate), Refusal::Rate)?;
     Ok(rate as usize)
+}
+
+/// 13: a base message has 1, 2 or 4 words.
+pub fn k0(k0: u32) -> Result<usize, Refusal> {
+    demand(K0S.contains(&k0), Refusal::BaseWords)?;
+    Ok(k0 as usize)
+}
+
+/// 13, for a job that takes base messages of one word only.
+pub fn one_word(k0: u32) -> Result<(), Refusal> {
+    demand(k0 == 1, Refusal::BaseWords)
 }
 
 /// 3: every length found is the length due; pairs of found and due.
@@ -63,9 +89,12 @@ pub fn word<const P: u32>(input: Input, word: u32) -> Result<Residue<P>, Refusal
     Residue::new(word).ok_or(Refusal::Word { input, index: 0 })
 }
 
-/// 5: no zero in the base row.
-pub fn row<const P: u32>(g: &[Residue<P>]) -> Result<(), Refusal> {
-    for (index, &word) in g.iter().enumerate() {
+/// 5: no zero in a base row that is alone; of several rows the first k0 columns have an inverse.
+pub fn rows<const P: u32>(code: &Code<P>) -> Result<(), Refusal> {
+    if code.sizes.k0 > 1 {
+        return demand(inverse(&code.leading()).is_some(), Refusal::NoInverse);
+    }
+    for (index, &word) in code.g.iter().enumerate() {
         demand(word != Residue::ZERO, Refusal::ZeroInRow(index))?;
     }
     Ok(())
@@ -80,13 +109,13 @@ pub fn diagonals<const P: u32>(t: &[Residue<P>], t2: &[Residue<P>]) -> Result<()
 }
 
 /// 7: at depth 0 no query; else 1 to 256 places below n_(d-1).
-pub fn queries(queries: &[u32], sizes: &Sizes) -> Result<Vec<usize>, Refusal> {
-    if sizes.depth == 0 {
+pub fn queries(queries: &[u32], layout: &Layout) -> Result<Vec<usize>, Refusal> {
+    if layout.depth == 0 {
         demand(queries.is_empty(), Refusal::Queries)?;
         return Ok(Vec::new());
     }
     let count = (1..=MAX_QUERIES).contains(&queries.len());
-    let below = sizes.block(sizes.depth - 1);
+    let below = layout.block(layout.depth - 1);
     let places = queries.iter().all(|&place| (place as usize) < below);
     demand(count && places, Refusal::Queries)?;
     Ok(queries.iter().map(|&place| place as usize).collect())

@@ -1,4 +1,5 @@
-//! The ten jobs of the order in plain Rust, written from its definitions, over both of its fields.
+//! The ten jobs of the order in plain Rust, written from its definitions, over both of its fields and
+//! with base messages of 1, 2 or 4 words.
 //!
 //! This crate is evidence, not product: it shares no line with the library and is kept simple
 //! rather than fast. Where a definition is too slow for large sizes there are two forms, the
@@ -6,7 +7,8 @@
 //! tests hold the two forms against each other.
 //!
 //! Every job takes its lent slices, results and work included, and returns an [`Answer`], so that
-//! a caller can compare all buffers after every call, refused or not.
+//! a caller can compare all buffers after every call, refused or not. A job that ends in `_with` is
+//! lent the parameter record; the one without it is the same job for base messages of one word.
 
 #![forbid(unsafe_code)]
 
@@ -18,10 +20,14 @@ pub mod encode;
 pub mod field;
 pub mod fill;
 pub mod fold;
+pub mod general;
 pub mod jobs;
 pub mod judge;
+pub mod layout;
+pub mod linear;
 pub mod numbers;
 pub mod opening;
+pub mod parameters;
 pub mod polynomial;
 pub mod residue;
 pub mod sample;
@@ -33,7 +39,10 @@ pub mod verify;
 pub use answer::{Answer, Input, Reading, Refusal};
 pub use code::{LentCode, LentLevel};
 pub use field::Field;
+pub use general::{GeneralCode, GeneralLevel};
 pub use jobs::{CodeJobs, GroundJobs, OpeningJobs, Reference};
+pub use layout::Layout;
+pub use parameters::Parameters;
 pub use residue::Residue;
 
 /// Up to this depth the jobs use the literal form of a definition.

@@ -1,6 +1,7 @@
 //! The order's numbers to try, each as it is printed there, as checks on any implementation of the
 //! jobs. They panic where a number is not met.
 
+pub mod blocks;
 mod deep;
 mod places;
 mod queries;

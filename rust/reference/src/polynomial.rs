@@ -4,6 +4,7 @@ use crate::answer::{Answer, Input, Refusal};
 use crate::field::Field;
 use crate::judge;
 use crate::over;
+use crate::parameters::Parameters;
 use crate::residue::Residue;
 use crate::LITERAL_DEPTH;
 
@@ -55,19 +56,42 @@ pub fn value<const P: u32>(message: &[Residue<P>], point: &[Residue<P>]) -> Resi
     }
 }
 
-/// The evaluation job. Refusals 1, 3, 4. `value` is written only when done.
+/// The coefficients that are left in the low variables when the higher ones are set: word b of them is
+/// the value of the polynomial that multiplies the low monomial b.
+pub fn set_high<const P: u32>(message: &[Residue<P>], high: &[Residue<P>]) -> Vec<Residue<P>> {
+    let left = message.len() >> high.len();
+    let beside = |b: usize| -> Vec<_> { message.iter().skip(b).step_by(left).copied().collect() };
+    (0..left).map(|b| value(&beside(b), high)).collect()
+}
+
+/// The evaluation job for base messages of one word. Refusals 1, 3, 4.
 pub fn evaluate(field: Field, depth: u32, message: &[u32], z: &[u32], value: &mut u32) -> Answer {
-    over!(field, P => try_evaluate::<P>(depth, message, z, value)).into()
+    over!(field, P => try_evaluate::<P>(depth, 1, message, z, value)).into()
+}
+
+/// The evaluation job. Refusals 1, 13, 3, 4. The rate is no number of it. `value` is written only when
+/// done.
+pub fn evaluate_with(
+    field: Field,
+    Parameters { depth, k0, .. }: Parameters,
+    message: &[u32],
+    z: &[u32],
+    value: &mut u32,
+) -> Answer {
+    over!(field, P => try_evaluate::<P>(depth, k0, message, z, value)).into()
 }
 
 fn try_evaluate<const P: u32>(
     depth: u32,
+    k0: u32,
     message: &[u32],
     z: &[u32],
     value: &mut u32,
 ) -> Result<(), Refusal> {
-    let depth = judge::depth(depth)?;
-    judge::lengths(&[(message.len(), 1 << depth), (z.len(), depth)])?;
+    let depth = judge::depth(depth, k0)?;
+    let k0 = judge::k0(k0)?;
+    let low = k0.trailing_zeros() as usize;
+    judge::lengths(&[(message.len(), k0 << depth), (z.len(), low + depth)])?;
     let message = judge::words::<P>(Input::Block, message)?;
     let z = judge::words(Input::Z, z)?;
     *value = self::value(&message, &z).word();
@@ -80,7 +104,7 @@ mod tests {
     use crate::over_both;
     use crate::sample::{Rng, STYLES};
 
-    over_both!(both_forms_agree refusals);
+    over_both!(both_forms_agree low_and_high refusals);
 
     fn both_forms_agree<const P: u32>() {
         let mut rng = Rng::new(Field::of(P), 4);
@@ -92,6 +116,21 @@ mod tests {
                     let literal = value_by_monomials(&message, &point);
                     assert_eq!(value_by_halves(&message, &point), literal);
                 }
+            }
+        }
+    }
+
+    /// Setting the high variables first and then the low ones gives the value at the whole point.
+    fn low_and_high<const P: u32>() {
+        let mut rng = Rng::new(Field::of(P), 42);
+        for depth in 0..=7 {
+            for low in 0..=depth {
+                let message = rng.residues::<P>(1 << depth, STYLES[0]);
+                let point = rng.residues(depth, STYLES[0]);
+                let left = set_high(&message, &point[low..]);
+                assert_eq!(left.len(), 1 << low);
+                let value = value_by_monomials(&left, &point[..low]);
+                assert_eq!(value, value_by_monomials(&message, &point));
             }
         }
     }

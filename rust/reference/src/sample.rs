@@ -3,8 +3,11 @@
 use crate::answer::Answer;
 use crate::field::{Field, FIRST, SECOND};
 use crate::fill::fill_roots;
+use crate::layout::Layout;
 use crate::residue::Residue;
 use crate::sizes::Sizes;
+
+mod base;
 
 /// A small seeded generator (splitmix64) of numbers and of residues of one field.
 #[derive(Clone, Debug)]
@@ -128,16 +131,24 @@ impl Rng {
 
     /// A legal base row, T and T' as words.
     pub fn code(&mut self, sizes: &Sizes, style: Style) -> [Vec<u32>; 3] {
+        self.general_code(&(*sizes).into(), style)
+    }
+
+    /// Legal base rows, T and T' as words.
+    pub fn general_code(&mut self, layout: &Layout, style: Style) -> [Vec<u32>; 3] {
         if style == Style::Roots {
-            return self.roots(sizes);
+            return self.roots(layout);
         }
-        let g = (0..sizes.rate).map(|_| self.non_zero(style)).collect();
-        let (t, t2) = self.diagonals(sizes.diagonals(), style);
+        let g = match layout.k0 {
+            1 => (0..layout.rate).map(|_| self.non_zero(style)).collect(),
+            _ => self.base_rows(layout, layout.k0, style),
+        };
+        let (t, t2) = self.diagonals(layout.diagonals(), style);
         [g, t, t2]
     }
 
-    fn roots(&self, sizes: &Sizes) -> [Vec<u32>; 3] {
-        assert_eq!(self.field, Field::Second);
+    fn roots(&self, sizes: &Layout) -> [Vec<u32>; 3] {
+        assert_eq!((self.field, sizes.k0), (Field::Second, 1));
         let lengths = [sizes.rate, sizes.diagonals(), sizes.diagonals()];
         let mut rows = lengths.map(|length| vec![0; length]);
         let [g, t, t2] = &mut rows;

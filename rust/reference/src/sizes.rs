@@ -1,6 +1,8 @@
-//! Sizes that follow from a legal depth and rate.
+//! The limits, and the sizes that follow from a legal depth and rate alone.
 
 use std::ops::Range;
+
+use crate::layout::Layout;
 
 /// Largest depth.
 pub const MAX_DEPTH: u32 = 20;
@@ -11,7 +13,10 @@ pub const MAX_TABLE: usize = 1_048_576;
 /// Longest query list.
 pub const MAX_QUERIES: usize = 256;
 
-/// A legal depth and a legal rate.
+/// Legal numbers of words of a base message.
+pub const K0S: [u32; 3] = [1, 2, 4];
+
+/// A legal depth and a legal rate, with base messages of one word.
 #[derive(Clone, Copy, PartialEq, Eq, Debug)]
 pub struct Sizes {
     /// The depth d.
@@ -20,54 +25,60 @@ pub struct Sizes {
     pub rate: usize,
 }
 
+impl From<Sizes> for Layout {
+    fn from(Sizes { depth, rate }: Sizes) -> Layout {
+        Layout { depth, rate, k0: 1 }
+    }
+}
+
 impl Sizes {
+    fn layout(&self) -> Layout {
+        (*self).into()
+    }
+
     /// Words of a message: 2^d.
     pub fn message(&self) -> usize {
-        1 << self.depth
+        self.layout().message()
     }
 
     /// Words of a block of a level: n_i = c * 2^i.
     pub fn block(&self, level: usize) -> usize {
-        self.rate << level
+        self.layout().block(level)
     }
 
     /// Words of a level-d block.
     pub fn top_block(&self) -> usize {
-        self.block(self.depth)
+        self.layout().top_block()
     }
 
     /// Words of all levels of one diagonal: c(2^d - 1).
     pub fn diagonals(&self) -> usize {
-        self.rate * ((1 << self.depth) - 1)
+        self.layout().diagonals()
     }
 
     /// Where a level lies in a diagonal: from c(2^i - 1), n_i words.
     pub fn diagonal(&self, level: usize) -> Range<usize> {
-        let start = self.rate * ((1 << level) - 1);
-        start..start + self.block(level)
+        self.layout().diagonal(level)
     }
 
     /// Words of an opening: 3d + 1 + c(2^d - 1).
     pub fn opening(&self) -> usize {
-        3 * self.depth + 1 + self.diagonals()
+        self.layout().opening()
     }
 
     /// Where h_i lies in an opening, for i from d down to 1.
     pub fn round(&self, i: usize) -> Range<usize> {
-        let start = 3 * (self.depth - i);
-        start..start + 3
+        self.layout().round(i)
     }
 
     /// Where the final value v lies in an opening.
     pub fn final_value(&self) -> usize {
-        3 * self.depth
+        self.layout().final_value()
     }
 
     /// Where the block of a level below d lies in an opening: after v and all higher blocks.
     pub fn opening_block(&self, level: usize) -> Range<usize> {
-        let higher: usize = (level + 1..self.depth).map(|k| self.block(k)).sum();
-        let start = self.final_value() + 1 + higher;
-        start..start + self.block(level)
+        self.layout().opening_block(level)
     }
 }
 

@@ -1,4 +1,7 @@
 //! The rounds h_d to h_1 of an opening.
+//!
+//! A point may have more words than there are challenges: the low variables, so many, stay inside the
+//! base message, and r_i belongs to the variable that many places higher.
 
 use crate::polynomial::{corner, value_by_monomials};
 use crate::residue::Residue;
@@ -19,22 +22,23 @@ pub fn sent_places<const P: u32>() -> [Residue<P>; 3] {
     [Residue::ZERO, Residue::ONE, two]
 }
 
-/// h_i at 0, 1, 2, literally: the sum of f*eq over the 0/1 choices of X_0 to X_(i-2), with
-/// X_(i-1) the place and the higher variables set to their challenges.
+/// h_i at 0, 1, 2, literally: the sum of f*eq over the 0/1 choices of the low variables and the i - 1
+/// above them, with the next one the place and the higher ones set to their challenges.
 pub fn round_by_corners<const P: u32>(
     message: &[Residue<P>],
     z: &[Residue<P>],
     r: &[Residue<P>],
     i: usize,
 ) -> [Residue<P>; 3] {
+    let lower = z.len() - r.len() + i - 1;
     sent_places().map(|place| {
         let term = |b| {
-            let mut x = corner(b, i - 1);
+            let mut x = corner(b, lower);
             x.push(place);
             x.extend_from_slice(&r[i..]);
             value_by_monomials(message, &x) * eq(z, &x)
         };
-        (0..1 << (i - 1)).map(term).sum()
+        (0..1 << lower).map(term).sum()
     })
 }
 
@@ -45,11 +49,10 @@ pub fn rounds_by_tables<const P: u32>(
     z: &[Residue<P>],
     r: &[Residue<P>],
 ) -> Vec<[Residue<P>; 3]> {
-    let depth = z.len();
     let mut f = corner_values(message);
-    let mut weight: Vec<_> = (0..f.len()).map(|b| eq(z, &corner(b, depth))).collect();
+    let mut weight: Vec<_> = (0..f.len()).map(|b| eq(z, &corner(b, z.len()))).collect();
     let mut rounds = Vec::new();
-    for i in (1..=depth).rev() {
+    for i in (1..=r.len()).rev() {
         rounds.push(sent_places().map(|place| {
             let (f, weight) = (set_top(&f, place), set_top(&weight, place));
             f.iter().zip(&weight).map(|(&f, &w)| f * w).sum()
@@ -73,10 +76,9 @@ pub fn rounds<const P: u32>(
     z: &[Residue<P>],
     r: &[Residue<P>],
 ) -> Vec<[Residue<P>; 3]> {
-    let depth = z.len();
-    if depth <= LITERAL_DEPTH {
+    if z.len() <= LITERAL_DEPTH {
         let round = |i| round_by_corners(message, z, r, i);
-        (1..=depth).rev().map(round).collect()
+        (1..=r.len()).rev().map(round).collect()
     } else {
         rounds_by_tables(message, z, r)
     }
@@ -101,15 +103,17 @@ mod tests {
 
     fn both_forms_agree<const P: u32>() {
         let mut rng = Rng::new(Field::of(P), 13);
-        for depth in 0..=6 {
-            for style in STYLES {
-                for _ in 0..4 {
-                    let message = rng.residues::<P>(1 << depth, style);
-                    let z = rng.residues(depth, style);
-                    let r = rng.residues(depth, style);
-                    let round = |i| round_by_corners(&message, &z, &r, i);
-                    let literal: Vec<_> = (1..=depth).rev().map(round).collect();
-                    assert_eq!(rounds_by_tables(&message, &z, &r), literal);
+        for low in 0..=2 {
+            for depth in 0..=6 - low {
+                for style in STYLES {
+                    for _ in 0..4 {
+                        let message = rng.residues::<P>(1 << (low + depth), style);
+                        let z = rng.residues(low + depth, style);
+                        let r = rng.residues(depth, style);
+                        let round = |i| round_by_corners(&message, &z, &r, i);
+                        let literal: Vec<_> = (1..=depth).rev().map(round).collect();
+                        assert_eq!(rounds_by_tables(&message, &z, &r), literal);
+                    }
                 }
             }
         }

@@ -5,6 +5,7 @@ use crate::clearance;
 use crate::field::Field;
 use crate::judge;
 use crate::over;
+use crate::parameters::Parameters;
 use crate::polynomial::{bit, corner, value_by_monomials};
 use crate::residue::Residue;
 use crate::LITERAL_DEPTH;
@@ -66,20 +67,32 @@ pub fn corner_values<const P: u32>(message: &[Residue<P>]) -> Vec<Residue<P>> {
     }
 }
 
-/// Table to coefficients. Refusals 1, 3, 9.
+/// Table to coefficients for base messages of one word. Refusals 1, 3, 9.
 pub fn table_to_coefficients(field: Field, clearances: &[i32], message: &mut [u32]) -> Answer {
-    over!(field, P => try_table_to_coefficients::<P>(clearances, message)).into()
+    over!(field, P => try_table_to_coefficients::<P>(1, clearances, message)).into()
+}
+
+/// Table to coefficients. Refusals 1, 13, 3, 9. Depth and rate are no numbers of it.
+pub fn table_to_coefficients_with(
+    field: Field,
+    Parameters { k0, .. }: Parameters,
+    clearances: &[i32],
+    message: &mut [u32],
+) -> Answer {
+    over!(field, P => try_table_to_coefficients::<P>(k0, clearances, message)).into()
 }
 
 fn try_table_to_coefficients<const P: u32>(
+    k0: u32,
     clearances: &[i32],
     message: &mut [u32],
 ) -> Result<(), Refusal> {
-    let depth = judge::table_length(clearances.len())?;
+    let variables = judge::table_length(clearances.len(), k0)?;
+    judge::k0(k0)?;
     judge::lengths(&[(message.len(), clearances.len())])?;
     let residues = clearances.iter().map(|&x| clearance::to_residue::<P>(x));
     let table = residues.collect::<Result<Vec<_>, _>>()?;
-    let coefficients = if depth <= LITERAL_DEPTH {
+    let coefficients = if variables <= LITERAL_DEPTH {
         coefficients_by_corners(&table)
     } else {
         coefficients_by_variables(&table)
@@ -88,22 +101,36 @@ fn try_table_to_coefficients<const P: u32>(
     Ok(())
 }
 
-/// Coefficients to table. Refusals 1, 3, 4. The work buffer is zero after success.
+/// Coefficients to table for base messages of one word. Refusals 1, 3, 4.
 pub fn coefficients_to_table(
     field: Field,
     message: &[u32],
     clearances: &mut [i32],
     work: &mut [u32],
 ) -> Answer {
-    over!(field, P => try_coefficients_to_table::<P>(message, clearances, work)).into()
+    over!(field, P => try_coefficients_to_table::<P>(1, message, clearances, work)).into()
+}
+
+/// Coefficients to table. Refusals 1, 13, 3, 4. Depth and rate are no numbers of it. The work buffer is
+/// zero after success.
+pub fn coefficients_to_table_with(
+    field: Field,
+    Parameters { k0, .. }: Parameters,
+    message: &[u32],
+    clearances: &mut [i32],
+    work: &mut [u32],
+) -> Answer {
+    over!(field, P => try_coefficients_to_table::<P>(k0, message, clearances, work)).into()
 }
 
 fn try_coefficients_to_table<const P: u32>(
+    k0: u32,
     message: &[u32],
     clearances: &mut [i32],
     work: &mut [u32],
 ) -> Result<(), Refusal> {
-    judge::table_length(message.len())?;
+    judge::table_length(message.len(), k0)?;
+    judge::k0(k0)?;
     let due = message.len();
     judge::lengths(&[(clearances.len(), due), (work.len(), due)])?;
     let message = judge::words::<P>(Input::Block, message)?;

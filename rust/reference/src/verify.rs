@@ -2,9 +2,12 @@
 
 use crate::answer::{Answer, Input, Refusal};
 use crate::code::{Code, LentCode};
+use crate::encode::by_matrix;
 use crate::fold::line;
+use crate::general::GeneralCode;
 use crate::judge;
 use crate::over;
+use crate::polynomial::{corner, value_by_monomials};
 use crate::residue::Residue;
 use crate::sumcheck::{eq, quadratic_at};
 
@@ -64,9 +67,14 @@ impl<const P: u32> Claim<P> {
         [words[0], words[1], words[2]]
     }
 
-    /// The final value v.
+    /// The first final coefficient; it is the final value where it is alone.
     pub fn final_value(&self, code: &Code<P>) -> Residue<P> {
         self.opening[code.sizes.final_value()]
+    }
+
+    /// The final coefficients v.
+    pub fn final_words(&self, code: &Code<P>) -> &[Residue<P>] {
+        &self.opening[code.sizes.final_words()]
     }
 
     /// The block of a level: the commitment at level d, a part of the opening below.
@@ -86,7 +94,7 @@ impl<const P: u32> Claim<P> {
     }
 }
 
-/// Checks 1 and 2: each round sums to the claim before it, and v * eq(z, r) is the last claim.
+/// Checks 1 and 2: each round sums to the claim before it, and what is left of f*eq to the last claim.
 fn sums_and_final<const P: u32>(claim: &Claim<P>, code: &Code<P>) -> Option<Verdict> {
     let mut claimed = claim.y;
     for i in (1..=code.sizes.depth).rev() {
@@ -96,15 +104,26 @@ fn sums_and_final<const P: u32>(claim: &Claim<P>, code: &Code<P>) -> Option<Verd
         }
         claimed = quadratic_at(h, claim.r[i - 1]);
     }
-    let last = claim.final_value(code) * eq(&claim.z, &claim.r);
-    (last != claimed).then_some(Verdict::Final)
+    (last_sum(claim, code) != claimed).then_some(Verdict::Final)
 }
 
-/// Check 3: block 0 holds v*g[j].
+/// The sum of v's polynomial times eq over the corners of the low variables, the higher ones being set
+/// to their challenges. With no low variable it is v * eq(z, r).
+fn last_sum<const P: u32>(claim: &Claim<P>, code: &Code<P>) -> Residue<P> {
+    let v = claim.final_words(code);
+    let term = |b| {
+        let low = corner(b, code.sizes.low());
+        let whole = [&low[..], &claim.r].concat();
+        value_by_monomials(v, &low) * eq(&claim.z, &whole)
+    };
+    (0..code.sizes.k0).map(term).sum()
+}
+
+/// Check 3: block 0 holds the codeword of v.
 fn base<const P: u32>(claim: &Claim<P>, code: &Code<P>) -> Option<Verdict> {
-    let v = claim.final_value(code);
+    let due = by_matrix(code, 0, claim.final_words(code));
     let block = claim.level_block(code, 0);
-    let wrong = (0..code.sizes.rate).find(|&j| block[j] != v * code.g[j]);
+    let wrong = (0..due.len()).find(|&j| block[j] != due[j]);
     wrong.map(Verdict::Base)
 }
 
@@ -137,7 +156,7 @@ fn first_wrong_fold<const P: u32>(claim: &Claim<P>, code: &Code<P>, place: usize
     None
 }
 
-/// The verifying job. Refusals 1 to 7 and 11, then the verdict.
+/// The verifying job for base messages of one word. Refusals 1 to 7 and 11, then the verdict.
 pub fn verify_opening(
     lent: LentCode,
     block: &[u32],
@@ -147,17 +166,43 @@ pub fn verify_opening(
     queries: &[u32],
     opening: &[u32],
 ) -> Answer {
+    verify_opening_with(lent.into(), block, z, y, r, queries, opening)
+}
+
+/// The verifying job. Refusals 1, 2, 13, 3 to 7 and 11, then the verdict.
+pub fn verify_opening_with(
+    lent: GeneralCode,
+    block: &[u32],
+    z: &[u32],
+    y: u32,
+    r: &[u32],
+    queries: &[u32],
+    opening: &[u32],
+) -> Answer {
     over!(lent.field, P => {
-        match judge_claim::<P>(lent, block, z, y, r, queries, opening) {
+        match judge_claim_with::<P>(lent, block, z, y, r, queries, opening) {
             Err(refusal) => refusal.into(),
             Ok((code, claim)) => claim.verdict(&code).into(),
         }
     })
 }
 
-/// Refusals 1 to 7 and 11 of the verifying job.
+/// The refusals of the verifying job for base messages of one word.
 pub fn judge_claim<const P: u32>(
     lent: LentCode,
+    block: &[u32],
+    z: &[u32],
+    y: u32,
+    r: &[u32],
+    queries: &[u32],
+    opening: &[u32],
+) -> Result<(Code<P>, Claim<P>), Refusal> {
+    judge_claim_with(lent.into(), block, z, y, r, queries, opening)
+}
+
+/// The refusals of the verifying job.
+pub fn judge_claim_with<const P: u32>(
+    lent: GeneralCode,
     block: &[u32],
     z: &[u32],
     y: u32,
@@ -169,7 +214,7 @@ pub fn judge_claim<const P: u32>(
         |sizes| {
             vec![
                 (block.len(), sizes.top_block()),
-                (z.len(), sizes.depth),
+                (z.len(), sizes.point()),
                 (r.len(), sizes.depth),
                 (opening.len(), sizes.opening()),
             ]

@@ -16,3 +16,10 @@ fn code() {
 fn opening() {
     numbers::opening::<Reference>();
 }
+
+#[test]
+fn base_blocks() {
+    numbers::blocks::ground::<Reference>();
+    numbers::blocks::code::<Reference>();
+    numbers::blocks::opening::<Reference>();
+}

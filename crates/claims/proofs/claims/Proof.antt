@@ -27,7 +27,7 @@ returns c =
     let s = c .before .before .before .before .before .before .before in
     let a = s .args in
     let 𝓕 = chosen (a .field) in
-    ap (afterSums 𝓕 (elements 𝓕 (a .opening .now)) (elements 𝓕 (a .z .now)) (elements 𝓕 (a .r .now))) (sym (c .before .i .given .1))
+    ap (afterSums 𝓕 0 (elements 𝓕 (a .opening .now)) (elements 𝓕 (a .z .now)) (elements 𝓕 (a .r .now))) (sym (c .before .i .given .1))
     ∙ result-is 𝓕 (a .depth) (a .y) (a .r .now) (a .opening .now) (s .pre .sums) _ (c .before .before .before .sums .ensures) (elements 𝓕 (a .z .now))
 
 returns-2 : tie.Need-returns-2
@@ -35,7 +35,7 @@ returns-2 c =
     let s = c .before .before .before .before .before .before .before .before in
     let a = s .args in
     let 𝓕 = chosen (a .field) in
-    c .last .ensures ∙ ap (afterSums 𝓕 (elements 𝓕 (a .opening .now)) (elements 𝓕 (a .z .now)) (elements 𝓕 (a .r .now))) (sym (c .before .before .claim .given .1))
+    c .last .ensures ∙ ap (afterSums 𝓕 0 (elements 𝓕 (a .opening .now)) (elements 𝓕 (a .z .now)) (elements 𝓕 (a .r .now))) (sym (c .before .before .claim .given .1))
     ∙ result-is 𝓕 (a .depth) (a .y) (a .r .now) (a .opening .now) (s .pre .sums) _ (c .before .before .before .before .sums .ensures) (elements 𝓕 (a .z .now))
 
 pub claims-spec : {M : Type 1} → statement M

@@ -3,7 +3,8 @@ use lib.ListN.{length}
 use Rattle.job.specs.Outcome.{done, outcome}
 use Rattle.job.specs.OutcomeLaws.{kept-done, kept-refused}
 use Rattle.residue.specs.Chosen.{chosen}
-use Rattle.fold.specs.Job.{judgeFolding, foldWords}
+use Rattle.lines.specs.Folds.{foldWords}
+use Rattle.fold.specs.Job.{judgeFolding}
 use Rattle.fold.proofs.Judged.{no-refusal-due}
 use borrow.Author.Needs.{needs}
 use Rattle.fold.proofs.fold.Statement.{statement}
@@ -26,7 +27,7 @@ fold-block-requires : tie.Need-fold-block-requires
 fold-block-requires c κs =
     let a = c .before .before .before .before .before .before .before .before .before .args in
     let u = no-refusal-due (chosen (a .field)) _ _ _ _ _ _ _ (passed (c .before .before)) in
-    (u .diagonals, u .whole, u .low, rw (c .before .new .ensures) (u .challenge))
+    (u .diagonals, u .first, u .second, u .whole, u .low, rw (c .before .new .ensures) (u .challenge))
 
 enum-told-2 : tie.Need-enum-told-2
 enum-told-2 c = search needs

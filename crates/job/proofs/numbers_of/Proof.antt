@@ -73,6 +73,12 @@ enum-told-8 c = search needs
 placed-requires-11 : tie.Need-placed-requires-11
 placed-requires-11 c κs = search needs
 
+enum-told-9 : tie.Need-enum-told-9
+enum-told-9 c = search needs
+
+placed-requires-12 : tie.Need-placed-requires-12
+placed-requires-12 c κs = search needs
+
 returns : tie.Need-returns
 returns c = c .placed .ensures ∙ ap due (sym (c .before .enum-told .given .1))
 
@@ -106,6 +112,9 @@ returns-10 c = c .placed10 .ensures ∙ ap due (sym (c .before .enum-told7 .give
 returns-11 : tie.Need-returns-11
 returns-11 c = c .placed11 .ensures ∙ ap due (sym (c .before .enum-told8 .given .1))
 
+returns-12 : tie.Need-returns-12
+returns-12 c = c .placed12 .ensures ∙ ap due (sym (c .before .enum-told9 .given .1))
+
 pub numbers-of-spec : {M : Type 1} → statement M
 numbers-of-spec =
     tie.close
@@ -133,6 +142,8 @@ numbers-of-spec =
     placed-requires-10
     enum-told-8
     placed-requires-11
+    enum-told-9
+    placed-requires-12
     returns
     returns-2
     returns-3
@@ -143,4 +154,5 @@ numbers-of-spec =
     returns-8
     returns-9
     returns-10
-    returns-11)
+    returns-11
+    returns-12)

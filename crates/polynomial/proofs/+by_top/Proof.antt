@@ -6,7 +6,7 @@ use Rattle.residue.specs.Elements.{sumProduct}
 use Rattle.residue.specs.Chosen.{chosen}
 use Rattle.residue.specs.ResidueLaws.{is-low}
 use Rattle.polynomial.specs.EvaluationLaws.{length-lower, left-input, right-input}
-use Rattle.polynomial.proofs.Values.{lent, summed, monomials-lower, joined}
+use Rattle.polynomial.proofs.Values.{monomials-lower, joined}
 use Prim.Native.Nat.{ℕ, _<_}
 use borrow.Fn.Kinds.{In}
 use borrow.Fn.PlainCycle.{Measures, is, falls, and}
@@ -15,7 +15,7 @@ use Rattle.polynomial.proofs.by_top.Kinds as by-top-kinds
 use Rattle.polynomial.proofs.+by_top.Lts-by_top as by-top-lts
 use Rattle.residue.proofs.Residue.new.Reads as new-reads
 use Rattle.residue.proofs.Residue.plus_product.Reads as plus-product-reads
-use Rattle.residue.proofs.sums.of_products.Reads as of-products-reads
+use Rattle.polynomial.proofs.parts.value_of.Reads as value-of-reads
 use Rattle.polynomial.proofs.+by_top.{statement}
 use Rattle.polynomial.proofs.+by_top.Tie.{close}
 
@@ -29,19 +29,18 @@ abbrev by-top-below : ℕ → In 3 by-top-kinds.ps
 by-top-below t = and 3 by-top-kinds.ps (falls 3 by-top-kinds.ps _<_ μ-by-top t) by-top.Pre
 
 abbrev rs : ℕ → by-top-lts.Claims
-rs t = (of-products-reads.Asked, of-products-reads.Learnt, by-top-below t, by-top.Post, new-reads.Asked, new-reads.Learnt, plus-product-reads.Asked, plus-product-reads.Learnt)
+rs t = (value-of-reads.Asked, value-of-reads.Learnt, by-top-below t, by-top.Post, new-reads.Asked, new-reads.Learnt, plus-product-reads.Asked, plus-product-reads.Learnt)
 
-by-top-of-products-requires : (t : ℕ) → by-top-lts.Need-of-products-requires (rs t) (by-top-at t) by-top.Post
-by-top-of-products-requires t c κs =
-    let s = c .before .before .before .before in
-    let a = s .args in
-    lent (chosen (a .field)) (a .w .now) (a .m .now) (a .z .now) (s .pre .1 .0) (s .pre .1 .1) (omega arith)
+by-top-add-if1 : (t : ℕ) → by-top-lts.Need-add-if1 (rs t) (by-top-at t) by-top.Post
+by-top-add-if1 t c = omega arith
+
+by-top-value-of-requires : (t : ℕ) → by-top-lts.Need-value-of-requires (rs t) (by-top-at t) by-top.Post
+by-top-value-of-requires t c κs =
+    let s = c .before .before .before in
+    (s .pre .1 .0, s .pre .1 .1, omega arith)
 
 by-top-returns : (t : ℕ) → by-top-lts.Need-returns (rs t) (by-top-at t) by-top.Post
-by-top-returns t c =
-    let s = c .before .before .before .before .before in
-    let a = s .args in
-    summed (chosen (a .field)) (a .w .now) (a .m .now) (a .z .now) (s .pre .1 .0) (s .pre .1 .1) (omega arith) (c .of-products .ensures)
+by-top-returns t c = c .value-of .ensures
 
 by-top-sub-top : (t : ℕ) → by-top-lts.Need-sub-top (rs t) (by-top-at t) by-top.Post
 by-top-sub-top t c = omega arith
@@ -113,7 +112,8 @@ pub +by-top-spec : {M : Type 1} → statement M
 +by-top-spec = close μ-by-top λ t. by-top-lts.spec (rs t)
     (by-top-at t)
     by-top.Post
-    (by-top-of-products-requires t)
+    (by-top-add-if1 t)
+    (by-top-value-of-requires t)
     (by-top-returns t)
     (by-top-sub-top t)
     (by-top-slice-aggregate-by-top t)

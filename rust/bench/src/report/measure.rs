@@ -39,7 +39,8 @@ pub type Side<'a> = &'a dyn Fn(&mut Buffers);
 /// The times of N sides in nanoseconds, a sample each, taken one right after the other.
 pub type Samples<const N: usize> = Vec<[f64; N]>;
 
-/// Samples of one round. In each sample another side goes first.
+/// Samples of one round. In each sample another side goes first, and every second sample takes the sides in the opposite order:
+/// where words fill much of the caches, a side that follows one of the other field is slower than one that finds its words there.
 pub fn measure<const N: usize>(
     plan: Plan,
     buffers: &mut Buffers,
@@ -49,7 +50,8 @@ pub fn measure<const N: usize>(
     let sample = |sample: usize| {
         let mut times = [0.0; N];
         for turn in 0..N {
-            let side = (sample + turn) % N;
+            let step = if sample % 2 == 0 { turn } else { N - turn };
+            let side = (sample + step) % N;
             let taken = time(repeats, buffers, sides[side]);
             times[side] = taken.as_nanos() as f64 / f64::from(repeats);
         }
@@ -88,11 +90,16 @@ fn repeats(least: Duration, fastest: Duration) -> u32 {
     least.as_nanos().div_ceil(once).max(1) as u32
 }
 
-/// The thread's time. The buffers are refilled outside it, and there is one call outside it: else the first
-/// side of a field would find the words of the other one in the caches.
+/// So many calls go before those that are timed, or as many as those, where they are fewer.
+const UNTIMED: u32 = 4;
+
+/// The thread's time. The buffers are refilled outside it, and there are calls outside it: else the first
+/// side of a field would find the words of the other one in the caches. One call does not bring eight megabytes there.
 fn time(repeats: u32, buffers: &mut Buffers, side: Side<'_>) -> Duration {
     buffers.refill();
-    side(black_box(buffers));
+    for _ in 0..repeats.min(UNTIMED) {
+        side(black_box(buffers));
+    }
     let start = clock::now();
     for _ in 0..repeats {
         side(black_box(buffers));

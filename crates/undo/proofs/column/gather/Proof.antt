@@ -1,16 +1,17 @@
 use mathlib.Core.Path.{_≡_, refl, sym, ap, _∙_}
-use Prim.Native.Nat.{_*_, _-_, _≤_, _<_}
-use native.Mathlib.Nat.{zero-mul, one-mul, mul-comm}
+use Prim.Native.Nat.{_+_, _*_, _-_, _≤_, _<_}
+use native.Mathlib.Nat.{zero-add, zero-mul, mul-comm}
 use native.Mathlib.Omega.{arith}
 use lib.ListN.{length, getD}
 use Rattle.algebra.specs.Filling.{Filled, filled-none, filled-turn, filled-end, filled-length}
-use Rattle.foldable.specs.Columns.{pick, length-pick, getD-pick}
+use Rattle.algebra.specs.Lists.{length-row, getD-row}
+use Rattle.foldable.specs.Every.{every}
 use Rattle.inversion.specs.Strides.{stride-next, stride-within}
 use Rattle.undo.proofs.column.gather.Statement.{statement}
 use Rattle.undo.proofs.column.gather.Tie as tie
 
 abbrev Inv-loop : tie.InvT-loop
-Inv-loop c block out₀ i₀ p₀ out i p = (i ≤ length out₀) × (length out ≡ length out₀) × (p ≡ i * c) × Filled i (pick c 1 (length out₀) block) out₀ out
+Inv-loop c block out₀ i₀ p₀ out i p = (i ≤ length out₀) × (length out ≡ length out₀) × (p ≡ i * c) × Filled i (every 0 c 0 (length out₀) block) out₀ out
 
 abbrev μ-loop : tie.MeasureT-loop
 μ-loop c block out₀ i₀ p₀ out i p = length out₀ - i
@@ -20,11 +21,11 @@ loop-holds c = (omega arith, refl, sym (zero-mul _), filled-none _ _)
 
 mul-out : tie.Need-mul-out Inv-loop μ-loop
 mul-out c =
-    let s = c .before .before in let a = s .args in let l = c .before .loop in let w = stride-within (l .i) (a .c) (length (a .out .now)) (omega arith) in let e = s .pre .1 ∙ mul-comm (a .c) (length (a .out .now)) in omega (arith, s .pre .0)
+    let s = c .before .before in let a = s .args in let l = c .before .loop in let w = stride-within (l .i) (a .c) (length (a .out .now)) (omega arith) in let e = mul-comm (a .c) (length (a .out .now)) in let f = s .pre .2 in omega (arith, s .pre .0)
 
 shared-slice-read-out : tie.Need-shared-slice-read-out Inv-loop μ-loop
 shared-slice-read-out c =
-    let s = c .before .before .before in let a = s .args in let l = c .before .before .loop in let w = stride-within (l .i) (a .c) (length (a .out .now)) (omega arith) in let e = s .pre .1 ∙ mul-comm (a .c) (length (a .out .now)) in omega (arith, s .pre .0)
+    let s = c .before .before .before in let a = s .args in let l = c .before .before .loop in let w = stride-within (l .i) (a .c) (length (a .out .now)) (omega arith) in let e = mul-comm (a .c) (length (a .out .now)) in let f = s .pre .2 in omega (arith, s .pre .0)
 
 mul-out-2 : tie.Need-mul-out-2 Inv-loop μ-loop
 mul-out-2 c = omega arith
@@ -34,7 +35,7 @@ slice-write-out c = omega arith
 
 add-p : tie.Need-add-p Inv-loop μ-loop
 add-p c =
-    let s = c .before .before .before in let a = s .args in let l = c .before .before .loop in let w = stride-within (l .i) (a .c) (length (a .out .now)) (omega arith) in let e = s .pre .1 ∙ mul-comm (a .c) (length (a .out .now)) in omega arith
+    let s = c .before .before .before in let a = s .args in let l = c .before .before .loop in let w = stride-within (l .i) (a .c) (length (a .out .now)) (omega arith) in let e = mul-comm (a .c) (length (a .out .now)) in let f = s .pre .2 in omega arith
 
 add-i : tie.Need-add-i Inv-loop μ-loop
 add-i c = omega arith
@@ -48,8 +49,7 @@ loop-again c =
     let m = length (a .out .now) in
     let b = a .block .now in
     let h : l .i < m = omega arith in
-    let n = length-pick (a .c) 1 m b (s .pre .0) (s .pre .1) ∙ one-mul m in
-    let q = filled-turn 0 h n (l .inv .3) (ap (λ k. getD b k 0) (l .inv .2) ∙ sym (getD-pick 0 (a .c) m b (s .pre .1) (s .pre .0) (l .i) h)) in
+    let q = filled-turn 0 h (length-row m _) (l .inv .3) (ap (λ k. getD b k 0) (l .inv .2 ∙ sym (zero-add (l .i * a .c))) ∙ sym (getD-row m (λ i. getD b (0 + i * a .c) 0) (l .i) 0 h)) in
     (omega arith, filled-length q, omega (arith, stride-next (l .i) (a .c)), q)
 
 same-length : tie.Need-same-length Inv-loop μ-loop
@@ -58,8 +58,7 @@ same-length c = omega arith
 returns : tie.Need-returns Inv-loop μ-loop
 returns c =
     let s = c .before .before in let a = s .args in let l = c .before .loop in
-    let m = length (a .out .now) in
-    filled-end (omega arith) (length-pick (a .c) 1 m (a .block .now) (s .pre .0) (s .pre .1) ∙ one-mul m) (l .inv .3)
+    filled-end (omega arith) (length-row (length (a .out .now)) _) (l .inv .3)
 
 pub gather-spec : {M : Type 1} → statement M
 gather-spec =

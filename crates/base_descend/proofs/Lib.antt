@@ -1,0 +1,3 @@
+-- Laws that belong to no one function.
+--     Parts    the two blocks as one part of the opening
+pub mod Parts

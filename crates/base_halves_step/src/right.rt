@@ -1,0 +1,67 @@
+// The codeword of the right half of a message of whole base messages that stands in front of a slice, written behind the message in the same slice.
+ghost use mathlib.Core.Path.{_≡_};
+ghost use lib.ListN.{take, drop};
+ghost use borrow.Rule.Slice.PartMut.{putMid};
+ghost use Rattle.residue.specs.Chosen.{chosen};
+ghost use Rattle.base_spread.specs.Steps.{blockOf};
+ghost use Rattle.base_halves_step.specs.Steps.{BehindLent, RightLent, RightSpread, CodeLent, RightWritten};
+use base_spread::block;
+use code::lift;
+use residue::Field;
+
+// The base block of the k words from `from` on, in the n words from `to` on. Two parts of one slice are not lent at once: the words are copied first.
+fn block_behind(
+    k: usize,
+    n: usize,
+    from: usize,
+    to: usize,
+    g: &[u32],
+    work: &mut [u32],
+    field: Field,
+)
+    requires { ⌜ BehindLent (chosen field) k n from to (now g) (now work) ⌝ }
+    ensures { λ _. ⌜ now (work .exit) ≡ putMid to n (now (work .entry)) (blockOf (chosen field) n (now (g .entry)) (take k (drop from (now (work .entry))))) ⌝ }
+{
+    let mut m = [0u32; 4];
+    let e = from + k;
+    let f = to + n;
+    words::copy(&work[from..e], &mut m[..k]);
+    block::base_block(n, g, &m[..k], &mut work[to..f], field);
+}
+
+// The base blocks of the q base messages of the right half, from b on.
+fn spread_right(k: usize, n: usize, q: usize, b: usize, g: &[u32], work: &mut [u32], field: Field)
+    requires { ⌜ RightLent (chosen field) k n q b (now g) (now work) ⌝ }
+    ensures { λ _. ⌜ RightSpread (chosen field) k n q b (now (g .entry)) (now (work .entry)) (now (work .exit)) ⌝ }
+{
+    let mut i = k * q;
+    let mut x = b;
+    let mut j = 0;
+    while j < q {
+        block_behind(k, n, i, x, g, work, field);
+        i += k;
+        x += n;
+        j += 1;
+    }
+}
+
+// The message has two halves of level `level`. Above the base blocks the code is that of any one row of n words: the first is lent for its length.
+pub fn write_right(
+    level: u32,
+    k: usize,
+    n: usize,
+    b: usize,
+    g: &[u32],
+    t: &[u32],
+    t2: &[u32],
+    work: &mut [u32],
+    field: Field,
+)
+    requires { ⌜ CodeLent (chosen field) level k n b (now g) (now t) (now t2) (now work) ⌝ }
+    ensures { λ _. ⌜ RightWritten (chosen field) level k n b (now (g .entry)) (now (t .entry)) (now (t2 .entry)) (now (work .entry)) (now (work .exit)) ⌝ }
+{
+    let q = job::message_len(level);
+    spread_right(k, n, q, b, g, work, field);
+    let e = b + n * q;
+    lift::lift(level, &g[..n], t, t2, &mut work[b..e], field);
+}

@@ -1,0 +1,3 @@
+-- Laws that belong to no one function.
+--     Writes    what the parts of the whole are lent
+pub mod Writes

@@ -1,0 +1,44 @@
+// One column of the base blocks of a message.
+ghost use mathlib.Core.Path.{_≡_};
+ghost use Prim.Native.Nat.{_*_};
+ghost use lib.ListN.{getD, take};
+ghost use lib.Seq.{paste};
+ghost use Rattle.residue.specs.Chosen.{chosen};
+ghost use Rattle.base_spread.specs.Steps.{blockOf};
+ghost use Rattle.base_same.specs.Steps.{WordLent, BaseLent, columnWords};
+use residue::Field;
+use words::entry;
+
+// Word j of the base block of m: its words times column j of the base matrix.
+fn block_word(n: usize, j: usize, g: &[u32], m: &[u32], field: Field) -> u32
+    requires { ⌜ WordLent (chosen field) n j (now g) (now m) ⌝ }
+    ensures { λ r. ⌜ r ≡ getD (blockOf (chosen field) n (now (g .entry)) (now (m .entry))) j 0 ⌝ }
+{
+    let mut s = 0;
+    let mut p = j;
+    let mut b = 0;
+    while b < m.len() {
+        s = entry::plus_product(s, m[b], g[p], field);
+        p += n;
+        b += 1;
+    }
+    s
+}
+
+// Behind the q base messages in front of w, word j of the base block of each.
+pub fn write_column(k: usize, n: usize, q: usize, j: usize, g: &[u32], w: &mut [u32], field: Field)
+    requires { ⌜ BaseLent (chosen field) k n q j (now g) (now w) ⌝ }
+    ensures { λ _. ⌜ now (w .exit) ≡ paste (now (w .entry)) (k * q) (columnWords (chosen field) k n q j (now (g .entry)) (take (k * q) (now (w .entry)))) q ⌝ }
+{
+    let h = k * q;
+    let mut a = 0;
+    let mut i = 0;
+    while i < q {
+        let e = a + k;
+        let p = h + i;
+        let v = block_word(n, j, g, &w[a..e], field);
+        w[p] = v;
+        a = e;
+        i += 1;
+    }
+}
