@@ -1,7 +1,7 @@
-/* How much stack the functions take: each one runs at the largest depth, and at rate 4 or the one that -DRATE= names, on a painted stack of
- * its own, over both fields. Decoding goes one way at rates 2 and 3 and another from 4 on; beyond that the rate makes no difference. Prints
- * the bytes that were touched beyond those of a call that does nothing, and exits with 1 when some function takes LIMIT or more, or does
- * not answer 0. */
+/* How much stack the functions take: each one runs with the longest message, at rate 4 or the one that -DRATE= names and with base
+ * messages of one word or as many as -DK0= names, on a painted stack of its own, over both fields. Decoding goes one way at rates 2 and 3
+ * and another from 4 on; beyond that the rate makes no difference. Prints the bytes that were touched beyond those of a call that does
+ * nothing, and exits with 1 when some function takes LIMIT or more, or does not answer 0. */
 #define _DEFAULT_SOURCE
 #include <stdio.h>
 #include <stdlib.h>
@@ -13,41 +13,48 @@
 #ifndef RATE
 #define RATE 4
 #endif
+#ifndef K0
+#define K0 1
+#endif
 
-enum { DEPTH = TV_MAX_DEPTH, STACK = 1 << 18, PAINT = 0xa5, LIMIT = 4608 };
+enum { DEPTH = TV_MAX_DEPTH - K0 / 2, STACK = 1 << 18, PAINT = 0xa5, LIMIT = 6144 };
 
-#define MESSAGE TV_MESSAGE_LEN(DEPTH)
-#define BLOCK TV_BLOCK_LEN(DEPTH, RATE)
-#define HALF TV_BLOCK_LEN(DEPTH - 1, RATE)
-#define DIAGONALS TV_DIAGONALS_LEN(DEPTH, RATE)
-#define OPENING TV_OPENING_LEN(DEPTH, RATE)
+#define MESSAGE TV_MESSAGE_LEN(DEPTH, K0)
+#define POINT TV_POINT_LEN(DEPTH, K0)
+#define ROWS TV_ROWS_LEN(RATE, K0)
+#define BASE TV_BLOCK_LEN(0, RATE, K0)
+#define BLOCK TV_BLOCK_LEN(DEPTH, RATE, K0)
+#define HALF TV_BLOCK_LEN(DEPTH - 1, RATE, K0)
+#define DIAGONALS TV_DIAGONALS_LEN(DEPTH, RATE, K0)
+#define OPENING TV_OPENING_LEN(DEPTH, RATE, K0)
 
-static uint32_t g[RATE], t[DIAGONALS], t2[DIAGONALS], message[MESSAGE], block[BLOCK], z[DEPTH], r[DEPTH], queries[TV_MAX_QUERIES];
+static const tv_parameters sizes = {DEPTH, RATE, K0};
+static uint32_t g[ROWS], t[DIAGONALS], t2[DIAGONALS], message[MESSAGE], block[BLOCK], z[POINT], r[DEPTH], queries[TV_MAX_QUERIES];
 static uint32_t opening[OPENING], work[BLOCK], decoded[MESSAGE], folded[HALF], value;
 static int32_t table[MESSAGE];
 static uint32_t number;
 static bool field;
 
-#define CODE field, DEPTH, RATE, g, RATE, t, DIAGONALS, t2, DIAGONALS
+#define CODE field, sizes, g, ROWS, t, DIAGONALS, t2, DIAGONALS
 
 static void nothing(void) { number = 0; }
 static void read_clearance(void) { number = tv_read_clearance(field, 5).answer.number; }
-static void to_coefficients(void) { number = tv_table_to_coefficients(field, table, MESSAGE, message, MESSAGE).number; }
-static void to_table(void) { number = tv_coefficients_to_table(field, message, MESSAGE, table, MESSAGE, work, MESSAGE).number; }
-static void evaluate(void) { number = tv_evaluate(field, DEPTH, message, MESSAGE, z, DEPTH, &value).number; }
+static void to_coefficients(void) { number = tv_table_to_coefficients(field, sizes, table, MESSAGE, message, MESSAGE).number; }
+static void to_table(void) { number = tv_coefficients_to_table(field, sizes, message, MESSAGE, table, MESSAGE, work, MESSAGE).number; }
+static void evaluate(void) { number = tv_evaluate(field, sizes, message, MESSAGE, z, POINT, &value).number; }
 static void encode(void) { number = tv_encode(CODE, message, MESSAGE, block, BLOCK).number; }
 static void decode(void) { number = tv_decode(CODE, block, BLOCK, decoded, MESSAGE, work, BLOCK).number; }
-static void fill_roots(void) { number = tv_fill_roots(DEPTH, RATE, g, RATE, t, DIAGONALS, t2, DIAGONALS).number; }
-static void fold(void) { number = tv_fold(field, DEPTH, RATE, t, HALF, t2, HALF, block, BLOCK, 7, folded, HALF).number; }
+static void fill_roots(void) { number = tv_fill_roots(sizes, g, ROWS, t, DIAGONALS, t2, DIAGONALS).number; }
+static void fold(void) { number = tv_fold(field, sizes, t, HALF, t2, HALF, block, BLOCK, 7, folded, HALF).number; }
 
 static void write_opening(void)
 {
-    number = tv_write_opening(CODE, message, MESSAGE, z, DEPTH, r, DEPTH, opening, OPENING, work, 2 * MESSAGE, &value).number;
+    number = tv_write_opening(CODE, message, MESSAGE, z, POINT, r, DEPTH, opening, OPENING, work, 2 * MESSAGE, &value).number;
 }
 
 static void verify_opening(void)
 {
-    number = tv_verify_opening(CODE, block, BLOCK, z, DEPTH, value, r, DEPTH, queries, TV_MAX_QUERIES, opening, OPENING).number;
+    number = tv_verify_opening(CODE, block, BLOCK, z, POINT, value, r, DEPTH, queries, TV_MAX_QUERIES, opening, OPENING).number;
 }
 
 /* Bytes of the stack that a call touches. It grows downwards. */
@@ -85,10 +92,13 @@ int main(void)
         t[i] = (uint32_t)i, t2[i] = (uint32_t)i + 1;
     for (size_t i = 0; i < MESSAGE; i++)
         table[i] = (int32_t)i;
-    for (uint32_t i = 0; i < RATE; i++)
-        g[i] = i + 1;
+    /* One row of 1 2 3 ..; of several rows the first k0 columns are 1 on the diagonal and 0 below it. */
+    for (size_t i = 0; i < ROWS; i++)
+        g[i] = i % BASE < i / BASE ? 0 : (uint32_t)(i % BASE - i / BASE) + 1;
+    for (uint32_t i = 0; i < POINT; i++)
+        z[i] = i + 1;
     for (uint32_t i = 0; i < DEPTH; i++)
-        z[i] = r[i] = i + 1;
+        r[i] = i + 1;
     for (uint32_t i = 0; i < TV_MAX_QUERIES; i++)
         queries[i] = i * 2047; /* below HALF at every rate, and no two the same */
     static const struct {
@@ -105,6 +115,8 @@ int main(void)
         for (size_t i = 0; i < sizeof calls / sizeof *calls; i++)
             wrong += measure(calls[i].name, calls[i].call);
     }
+    if (K0 > 1)
+        return wrong > 0;
     /* Then also with the row and the diagonals that this writes. */
     wrong += measure("tv_fill_roots", fill_roots);
     wrong += measure("tv_encode, of these", encode);

@@ -8,13 +8,6 @@ use Rattle.algebra.specs.WordLists.{Low}
 use Rattle.blocks.specs.Base.{baseMessages}
 use Rattle.base_matrix.specs.Inverting.{solved}
 
--- whole parts of k words in out, and a base block of n words for each
-pub record PickLent (k n : ℕ) (block out : List ℕ) : Type 0 where
-  pub some : 0 < k
-  pub few : k ≤ n
-  pub whole : length out ≡ k * (length out / k)
-  pub size : length block ≡ n * (length out / k)
-
 module _ (𝓕 : PrimeField) where
   open PrimeField 𝓕 using (modulus as P)
 

@@ -21,7 +21,8 @@ use Rattle.foldable.specs.Exact.{decode-column}
 use Rattle.determinant.specs.Products.{solved}
 use Rattle.blocks.specs.Decoders.{inverse-decoder}
 use Rattle.cofactor.specs.Rows.{rows, firstColumns}
-use Rattle.cofactor.specs.RowLaws.{size-most, rows-count, rows-wide, first-square}
+use Rattle.job.specs.SizeLaws.{size-most}
+use Rattle.cofactor.specs.RowLaws.{rows-count, rows-wide, first-square}
 use Rattle.columns.proofs.Comparing.{words-every}
 use Rattle.base_spread.specs.LentRows.{lentRows, codewordRows}
 use Rattle.base_undo.specs.Steps.{decodedRows}

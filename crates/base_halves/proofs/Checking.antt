@@ -19,7 +19,7 @@ use Rattle.foldable.specs.Encode.{double}
 use Rattle.job.specs.Limits.{maxMessage, blockSize}
 use Rattle.job.specs.LimitLaws.{power-most}
 use Rattle.cofactor.specs.Rows.{rows}
-use Rattle.cofactor.specs.RowLaws.{size-most}
+use Rattle.job.specs.SizeLaws.{size-most}
 use Rattle.base_spread.specs.LentRows.{codewordRows}
 use Rattle.base_spread.specs.Steps.{blockOf}
 use Rattle.halves_step.proofs.Places.{take-front}

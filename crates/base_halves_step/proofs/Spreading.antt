@@ -15,7 +15,7 @@ use Rattle.foldable.specs.Lift.{lift}
 use Rattle.job.specs.Limits.{blockSize}
 use Rattle.parameters.specs.Lent.{lent}
 use Rattle.code.specs.Steps.{LiftInput}
-use Rattle.cofactor.specs.RowLaws.{size-least}
+use Rattle.job.specs.SizeLaws.{size-least}
 use Rattle.base_spread.specs.Steps.{blockOf, blocksOf, SpreadLent, EncodeLent}
 use Rattle.base_spread.proofs.Spreading.{Reached, length-blocks, block-part}
 use Rattle.base_spread.proofs.Encoding.{first-length, lifting, encoded}

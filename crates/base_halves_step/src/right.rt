@@ -1,13 +1,30 @@
 // The codeword of the right half of a message of whole base messages that stands in front of a slice, written behind the message in the same slice.
 ghost use mathlib.Core.Path.{_≡_};
-ghost use lib.ListN.{take, drop};
+ghost use Prim.Native.Nat.{_+_, _≤_};
+ghost use lib.ListN.{length, take, drop};
 ghost use borrow.Rule.Slice.PartMut.{putMid};
 ghost use Rattle.residue.specs.Chosen.{chosen};
+ghost use Rattle.job.specs.Sizes.{Size};
 ghost use Rattle.base_spread.specs.Steps.{blockOf};
 ghost use Rattle.base_halves_step.specs.Steps.{BehindLent, RightLent, RightSpread, CodeLent, RightWritten};
 use base_spread::block;
 use code::lift;
+use halves_step::right;
 use residue::Field;
+
+// The k words from `from` on, in front: one by one, since a copy of a length that is not known would be a call.
+fn base_message(k: usize, from: usize, work: &[u32]) -> [u32; 4]
+    requires { ⌜ Size k × (from + k ≤ length (now work)) ⌝ }
+    ensures { λ m. ⌜ (length m ≡ 4) × (take k m ≡ take k (drop from (now (work .entry)))) ⌝ }
+{
+    if k == 1 {
+        return [work[from], 0, 0, 0];
+    }
+    if k == 2 {
+        return [work[from], work[from + 1], 0, 0];
+    }
+    [work[from], work[from + 1], work[from + 2], work[from + 3]]
+}
 
 // The base block of the k words from `from` on, in the n words from `to` on. Two parts of one slice are not lent at once: the words are copied first.
 fn block_behind(
@@ -22,10 +39,8 @@ fn block_behind(
     requires { ⌜ BehindLent (chosen field) k n from to (now g) (now work) ⌝ }
     ensures { λ _. ⌜ now (work .exit) ≡ putMid to n (now (work .entry)) (blockOf (chosen field) n (now (g .entry)) (take k (drop from (now (work .entry))))) ⌝ }
 {
-    let mut m = [0u32; 4];
-    let e = from + k;
+    let m = base_message(k, from, work);
     let f = to + n;
-    words::copy(&work[from..e], &mut m[..k]);
     block::base_block(n, g, &m[..k], &mut work[to..f], field);
 }
 
@@ -45,8 +60,8 @@ fn spread_right(k: usize, n: usize, q: usize, b: usize, g: &[u32], work: &mut [u
     }
 }
 
-// The message has two halves of level `level`. Above the base blocks the code is that of any one row of n words: the first is lent for its length.
-pub fn write_right(
+// The base blocks, and then the levels above: there the code is that of any one row of n words, and the first is lent for its length.
+fn write_blocks(
     level: u32,
     k: usize,
     n: usize,
@@ -64,4 +79,26 @@ pub fn write_right(
     spread_right(k, n, q, b, g, work, field);
     let e = b + n * q;
     lift::lift(level, &g[..n], t, t2, &mut work[b..e], field);
+}
+
+// The message has two halves of level `level`. One word a base message has its own loop.
+pub fn write_right(
+    level: u32,
+    k: usize,
+    n: usize,
+    b: usize,
+    g: &[u32],
+    t: &[u32],
+    t2: &[u32],
+    work: &mut [u32],
+    field: Field,
+)
+    requires { ⌜ CodeLent (chosen field) level k n b (now g) (now t) (now t2) (now work) ⌝ }
+    ensures { λ _. ⌜ RightWritten (chosen field) level k n b (now (g .entry)) (now (t .entry)) (now (t2 .entry)) (now (work .entry)) (now (work .exit)) ⌝ }
+{
+    if k == 1 {
+        right::write_right(level, b, g, t, t2, work, field);
+        return;
+    }
+    write_blocks(level, k, n, b, g, t, t2, work, field);
 }

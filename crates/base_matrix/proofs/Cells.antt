@@ -20,7 +20,8 @@ use Rattle.determinant.specs.Inverse.{Square}
 use Rattle.determinant.specs.Determinant.{minor, entry, sign, det, adjugate, inverse}
 use Rattle.determinant.specs.Exactly.{invertible, singular-exactly}
 use Rattle.cofactor.specs.Rows.{firstColumns, Lent}
-use Rattle.cofactor.specs.RowLaws.{table, size-least, size-most, row-within, first-columns, first-square}
+use Rattle.job.specs.SizeLaws.{size-least, size-most}
+use Rattle.cofactor.specs.RowLaws.{table, row-within, first-columns, first-square}
 use Rattle.cofactor.specs.Cofactors.{minorAt, cofactorAt}
 use Rattle.base_matrix.specs.Inverting.{Inverts}
 use Rattle.base_matrix.specs.Steps.{cellAt, scaledWords, productAt, ProductLent}

@@ -1,11 +1,10 @@
 -- A row vector times a matrix, term by term; the words of a multiple. Assumes nothing.
 use mathlib.Core.Path.{_≡_, refl, sym, ap, _∙_}
-use mathlib.Core.List.{List, _++_, map}
+use mathlib.Core.List.{List, [], _∷_, map}
 use Prim.Native.Nat.{ℕ, _+_, _*_, _<_, _≤_}
 use native.Mathlib.Numerals.{add-one}
 use native.Mathlib.Omega.{arith}
-use lib.ListN.{length, getD, take, length-append, length-map, List·getD-map}
-use lib.Seq.{take-at}
+use lib.ListN.{length, getD, take, length-map, List·getD-map}
 use Rattle.algebra.specs.Ring.{Ring, mul-zero}
 use Rattle.algebra.specs.Field.{Field}
 use Rattle.algebra.specs.Lists.{row, row-ext, map-row}
@@ -20,12 +19,17 @@ use Rattle.cofactor.specs.RowLaws.{first-columns}
 use Rattle.base_matrix.specs.Inverting.{SolveLent, solved}
 use Rattle.base_matrix.specs.Steps.{scaledWords, productAt, TimesLent}
 
--- what was copied to the front of a list
-pub front : (b : List ℕ) {l : List ℕ} (z : List ℕ) → l ≡ b → take (length b) (l ++ z) ≡ b
-front b {l} z e = take-at l z (length b) (ap length e) ∙ e
+-- at most four words, with zeros behind them
+front-four : (b : List ℕ) → length b ≤ 4 → take (length b) (getD b 0 0 ∷ getD b 1 0 ∷ getD b 2 0 ∷ getD b 3 0 ∷ []) ≡ b
+front-four [] h = refl
+front-four (x ∷ []) h = refl
+front-four (x ∷ y ∷ []) h = refl
+front-four (x ∷ y ∷ z ∷ []) h = refl
+front-four (x ∷ y ∷ z ∷ w ∷ []) h = refl
+front-four (x ∷ y ∷ z ∷ w ∷ v ∷ b) h = absurd (omega arith)
 
-pub front-within : (b : List ℕ) {l : List ℕ} (z : List ℕ) → l ≡ b → length b ≤ length (l ++ z)
-front-within b {l} z e = omega (arith, length-append l z, ap length e)
+pub front-of : (b : List ℕ) {x y z w : ℕ} → length b ≤ 4 → x ≡ getD b 0 0 → y ≡ getD b 1 0 → z ≡ getD b 2 0 → w ≡ getD b 3 0 → take (length b) (x ∷ y ∷ z ∷ w ∷ []) ≡ b
+front-of b h p q r s = rw (p, q, r, s) (front-four b h)
 
 module _ (𝓕 : PrimeField) where
   infixl 65 _⊞_

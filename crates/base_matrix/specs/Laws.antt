@@ -27,7 +27,8 @@ use Rattle.determinant.specs.Determinant.{det}
 use Rattle.determinant.specs.Sizes.{det-one}
 use Rattle.determinant.specs.Exactly.{singular-exactly}
 use Rattle.blocks.specs.Decoders.{inverse-decoder}
-use Rattle.cofactor.specs.Rows.{Size, one, two, four, rows, firstColumns, Lent}
+use Rattle.job.specs.Sizes.{Size, one, two, four}
+use Rattle.cofactor.specs.Rows.{rows, firstColumns, Lent}
 use Rattle.cofactor.specs.RowLaws.{first-columns, first-square, rows-count, rows-wide}
 use Rattle.base_matrix.specs.declared.Inverted.{Inverted}
 use Rattle.base_matrix.specs.Inverting.{Inverts, solved, BaseOk, baseOk}

@@ -41,7 +41,7 @@ pub fn adjugate(k: usize, n: usize, g: &[u32], field: Field) -> [u32; 16]
 }
 
 // Each word times q.
-fn scale(q: Residue, m: &mut [u32], field: Field)
+pub fn scale(q: Residue, m: &mut [u32], field: Field)
     requires { ⌜ LowResidue (chosen field) q × Low (P (chosen field)) (now m) ⌝ }
     ensures { λ _. ⌜ now (m .exit) ≡ scaledWords (chosen field) (q .0) (now (m .entry)) ⌝ }
 {

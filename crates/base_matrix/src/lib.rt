@@ -1,5 +1,7 @@
 // The first k columns of a base matrix of k rows, for k = 1, 2 and 4: their inverse, what it solves, and whether a base matrix is legal.
 ghost use mathlib.Core.Path.{_≡_};
+ghost use Prim.Native.Nat.{_≤_};
+ghost use lib.ListN.{length, take, getD};
 ghost use Rattle.residue.specs.Chosen.{chosen};
 ghost use Rattle.cofactor.specs.Rows.{Lent};
 ghost use Rattle.base_matrix.specs.Inverting.{Inverts, SolveLent, solved, BaseOk};
@@ -31,14 +33,36 @@ pub fn invert(k: usize, n: usize, g: &[u32], field: Field) -> Inverted
     Inverted { singular: false, m }
 }
 
+// Word i of b, and 0 behind its end.
+fn word_or_zero(b: &[u32], i: usize) -> u32
+    ensures { λ w. ⌜ w ≡ getD (now (b .entry)) i 0 ⌝ }
+{
+    if i < b.len() {
+        return b[i];
+    }
+    0
+}
+
+// At most four words, with zeros behind them: one by one, since a copy of a length that is not known would be a call.
+fn four_words(b: &[u32]) -> [u32; 4]
+    requires { ⌜ length (now b) ≤ 4 ⌝ }
+    ensures { λ w. ⌜ (length w ≡ 4) × (take (length (now (b .entry))) w ≡ now (b .entry)) ⌝ }
+{
+    [
+        word_or_zero(b, 0),
+        word_or_zero(b, 1),
+        word_or_zero(b, 2),
+        word_or_zero(b, 3),
+    ]
+}
+
 // The k words of b times the matrix in m, in their place.
 pub fn solve(m: &[u32], b: &mut [u32], field: Field)
     requires { ⌜ SolveLent (chosen field) (now m) (now b) ⌝ }
     ensures { λ _. ⌜ now (b .exit) ≡ solved (chosen field) (now (m .entry)) (now (b .entry)) ⌝ }
 {
     let k = b.len();
-    let mut old = [0u32; 4];
-    words::copy(b, &mut old[..k]);
+    let old = four_words(b);
     product::times_into(&old[..k], m, b, field);
 }
 

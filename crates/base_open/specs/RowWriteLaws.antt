@@ -12,8 +12,8 @@ use Rattle.algebra.specs.WordLists.{Low}
 use Rattle.job.specs.Limits.{maxDepth, diagonalsSize}
 use Rattle.words.specs.Scans.{allDiffer}
 use Rattle.cofactor.specs.RowLaws.{lent-rate}
-use Rattle.base_parameters.specs.Sizes.{depthOk, inLimits, baseSize, messageSize, matrixSize, low, pointSize, openingSize}
-use Rattle.base_parameters.specs.SizeLaws.{depth-by-point, within, base-most}
+use Rattle.job.specs.Sizes.{depthOk, inLimits, baseSize, messageSize, matrixSize, low, pointSize, openingSize}
+use Rattle.job.specs.SizeLaws.{depth-by-point, within, base-most}
 use Rattle.base_spread.specs.LentRowLaws.{row-coding}
 use Rattle.base_rounds.specs.RowOpening.{WriteInput}
 

@@ -3,22 +3,25 @@ use mathlib.Core.Path.{_≡_, refl, sym, ap, _∙_}
 use mathlib.Core.Bool.{Bool, true}
 use mathlib.Core.Logic.{_↔_}
 use mathlib.Core.List.{List, _++_}
-use Prim.Native.Nat.{ℕ, _≤_}
+use Prim.Native.Nat.{ℕ, _+_, _≤_, _<_}
 use native.Mathlib.Omega.{arith}
-use lib.ListN.{length}
+use lib.ListN.{length, getD}
+use borrow.Author.Tests.{eqb-true, not-false}
 use Rattle.algebra.specs.Field.{Field}
 use Rattle.algebra.specs.Words.{PrimeField}
 use Rattle.job.specs.Outcome.{Numbers, Outcome, refused, done, require, _⨾_}
 use Rattle.job.specs.OutcomeLaws.{require-number, demand-number, after-number, chain, from-second, from-first, both, held, demand-done}
-use Rattle.job.specs.Limits.{rateOk}
+use Rattle.job.specs.Limits.{rateOk, blockSize, diagonalsSize}
 use Rattle.words.specs.Scans.{allBelow, allDiffer}
 use Rattle.places.specs.Inputs.{Lent, judgeWords, noEqual, FirstWord, FirstEqual}
 use Rattle.places.specs.InputLaws.{first-word, word-named, equal-named}
+use Rattle.parameters.specs.Lent.{diagonal}
+use Rattle.parameters.specs.LentLaws.{getD-diagonal}
 use Rattle.parameters.specs.Parameters.{rowInputs}
 use Rattle.determinant.specs.Inverse.{Singular}
 use Rattle.cofactor.specs.Rows.{firstColumns}
-use Rattle.base_parameters.specs.Sizes.{k0Ok, depthOk, limits, baseSize, matrixSize}
-use Rattle.base_parameters.specs.SizeLaws.{limits-within}
+use Rattle.job.specs.Sizes.{k0Ok, depthOk, limits, baseSize, matrixSize}
+use Rattle.job.specs.SizeLaws.{limits-within}
 use Rattle.base_parameters.specs.Parameters.{legalBase, judgeRows}
 use Rattle.base_parameters.specs.ParameterLaws.{base-number, base-refused, base-asked}
 
@@ -34,6 +37,11 @@ pub record RowsNamed (𝓕 : PrimeField) (d c k : ℕ) (g t t' : List ℕ) (l : 
       ↔ ((sizes d c k l ≡ done tt) × (judgeWords 𝓕 (rowInputs g t t' ++ xs) ≡ done tt) × (legalBase 𝓕 k (baseSize c k) g ≡ refused (5, j, n)))
   pub six : (j n : ℕ) → (o ≡ refused (6, j, n))
       ↔ ((sizes d c k l ≡ done tt) × (judgeWords 𝓕 (rowInputs g t t' ++ xs) ≡ done tt) × (legalBase 𝓕 k (baseSize c k) g ≡ done tt) × FirstEqual t t' j × (n ≡ 0))
+
+-- in T as lent, place j of level i is place m (2^i - 1) + j, where a base block has m words: there the two levels have the same word
+pub equal-in-level : (m i j : ℕ) (t t' : List ℕ) → j < blockSize m i → FirstEqual t t' (diagonalsSize m i + j) → getD (diagonal m t i) j 0 ≡ getD (diagonal m t' i) j 0
+equal-in-level m i j t t' h f =
+    getD-diagonal m i t j h ∙ eqb-true (getD t (diagonalsSize m i + j) 0) (getD t' (diagonalsSize m i + j) 0) (not-false _ (f .failing)) ∙ sym (getD-diagonal m i t' j h)
 
 -- the numbers of the links
 sizes-number : (d c k : ℕ) (l : Bool) {n : Numbers} → sizes d c k l ≡ refused n → 4 ≤ n .0 → n .0 ≡ 13

@@ -1,4 +1,4 @@
--- AT k0 = 1 EVERYTHING IS AS BEFORE: limits, sizes, lengths and judging are those of the crate `parameters`, whose base row is one. Assumes nothing.
+-- AT k0 = 1 EVERYTHING IS AS BEFORE: limits, sizes, lengths and judging are those of one base row. Assumes nothing.
 use mathlib.Core.Path.{_≡_, refl, sym, ap, ap₂, _∙_}
 use mathlib.Core.Bool.{Bool, true, false, _&&_}
 use mathlib.Core.Logic.{_↔_}
@@ -13,9 +13,10 @@ use Rattle.basefold.specs.Layout as layout
 use Rattle.job.specs.Outcome.{done, require, unless, _⨾_}
 use Rattle.job.specs.Limits as job
 use Rattle.places.specs.Inputs.{Lent, inOrder, judgeWords, noZero, noEqual}
-use Rattle.parameters.specs.Parameters as before
-use Rattle.base_parameters.specs.Sizes.{k0Ok, depthOk, limits, inLimits, baseSize, messageSize, matrixSize, low, pointSize, openingSize}
-use Rattle.base_parameters.specs.SizeLaws.{depth-by-point, power-is}
+use Rattle.parameters.specs.Parameters.{rowInputs}
+use Rattle.job.specs.Sizes.{k0Ok, depthOk, limits, inLimits, baseSize, messageSize, matrixSize, low, pointSize, openingSize}
+use Rattle.job.specs.SizeLaws.{depth-by-point, power-is}
+use Rattle.base_parameters.specs.OneRowBefore as before
 use Rattle.base_parameters.specs.Parameters.{rowLengths, legalBase, legalRows, judgeRows, judgeFlags, LegalRows}
 
 low-one : low 1 ≡ 0
@@ -29,11 +30,11 @@ one-legal = refl
 pub point-one : (d : ℕ) → pointSize d 1 ≡ d
 point-one d = omega (arith, low-one)
 
-pub depth-one : (d : ℕ) → depthOk 1 d ≡ job.depthOk d
+pub depth-one : (d : ℕ) → depthOk 1 d ≡ before.depthOk d
 depth-one d = sym (depth-by-point 1 d) ∙ ap (λ n. leb n job.maxDepth) (point-one d)
 
 pub limits-one : (d c : ℕ) → limits d c 1 ≡ before.limits d c
-limits-one d c = ap₂ (λ a b. require a 1 ⨾ require (job.rateOk c) 2 ⨾ require b 13) (depth-one d) one-legal ∙ go (job.depthOk d) (job.rateOk c)
+limits-one d c = ap₂ (λ a b. require a 1 ⨾ require (job.rateOk c) 2 ⨾ require b 13) (depth-one d) one-legal ∙ go (before.depthOk d) (job.rateOk c)
   where
     go : (a b : Bool) → require a 1 ⨾ require b 2 ⨾ done tt ≡ require a 1 ⨾ require b 2
     go true true = refl
@@ -41,7 +42,7 @@ limits-one d c = ap₂ (λ a b. require a 1 ⨾ require (job.rateOk c) 2 ⨾ req
     go false b = refl
 
 pub within-one : (d c : ℕ) → inLimits d c 1 ≡ before.inLimits d c
-within-one d c = ap₂ (λ a b. a && (job.rateOk c && b)) (depth-one d) one-legal ∙ ap (λ b. job.depthOk d && b) (go (job.rateOk c))
+within-one d c = ap₂ (λ a b. a && (job.rateOk c && b)) (depth-one d) one-legal ∙ ap (λ b. before.depthOk d && b) (go (job.rateOk c))
   where
     go : (b : Bool) → (b && true) ≡ b
     go true = refl
@@ -84,7 +85,7 @@ module _ (𝓕 : PrimeField) where
 
   pub judge-one : (d c : ℕ) (g t t' : List ℕ) (lengths : Bool) (xs : List Lent) → judgeRows 𝓕 d c 1 g t t' lengths xs ≡ before.judgeRow 𝓕 d c g t t' lengths xs
   judge-one d c g t t' lengths xs =
-      ap₂ (λ m n. m ⨾ require lengths 3 ⨾ judgeWords 𝓕 (before.rowInputs g t t' ++ xs) ⨾ n) (limits-one d c) (rows-one (baseSize c 1) g t t')
+      ap₂ (λ m n. m ⨾ require lengths 3 ⨾ judgeWords 𝓕 (rowInputs g t t' ++ xs) ⨾ n) (limits-one d c) (rows-one (baseSize c 1) g t t')
 
   pub flags-one : (d c : ℕ) (g t t' w z y r o : List ℕ) (lengths words apart : Bool)
       → judgeFlags 𝓕 d c 1 g t t' w z y r o lengths words apart ≡ before.judgeFlags 𝓕 d c g t t' w z y r o lengths words apart

@@ -14,22 +14,22 @@ use Rattle.algebra.specs.Words.{PrimeField}
 use Rattle.algebra.specs.Tests.{and-both}
 use Rattle.job.specs.declared.Refusal.the-variants.{BaseRow}
 use Rattle.job.specs.Outcome.{Numbers, unplaced, Outcome, refused, done, due, demand, require, unless, _⨾_}
-use Rattle.job.specs.OutcomeLaws.{after-refused, after-done, stop, pass, holds-demand, refuses, require-done, demand-done, refused-named, demand-number, both}
+use Rattle.job.specs.OutcomeLaws.{after-refused, after-done, stop, pass, holds-demand, refuses, require-done, demand-done, demand-held, refused-named, demand-number, both}
 use Rattle.job.specs.Limits.{rateOk, diagonalsSize}
-use Rattle.words.specs.Scans.{allBelow, noneZero}
+use Rattle.words.specs.Scans.{allBelow, noneZero, allDiffer}
 use Rattle.words.specs.ScanLaws.{all-below}
 use Rattle.places.specs.Inputs.{Lent, inOrder, judgeWords, noZero, noEqual, maxWords, Short}
 use Rattle.places.specs.FlagLaws.{words-flagged, equal-flagged}
 use Rattle.parameters.specs.Parameters.{rowInputs, rowWords, RowScanned}
-use Rattle.parameters.specs.ParameterLaws.{row-below}
+use Rattle.parameters.specs.ParameterLaws.{row-below, RowWords, row-words}
 use Rattle.determinant.specs.Inverse.{Singular}
 use Rattle.cofactor.specs.Rows.{Lent as RowsLent, firstColumns}
 use Rattle.cofactor.specs.RowLaws.{lent-rate}
 use Rattle.base_matrix.specs.Inverting.{BaseOk, baseOk}
 use Rattle.base_matrix.specs.Laws.{base-exactly, base-is}
-use Rattle.base_parameters.specs.Sizes.{k0Ok, depthOk, limits, inLimits, baseSize, matrixSize}
-use Rattle.base_parameters.specs.SizeLaws.{limits-done, limits-within, within, matrix-most, diagonals-most}
-use Rattle.base_parameters.specs.Parameters.{rowLengths, legalBase, legalRows, judgeRows, judgeFlags, Flagged, BaseLent}
+use Rattle.job.specs.Sizes.{k0Ok, depthOk, limits, inLimits, baseSize, matrixSize}
+use Rattle.job.specs.SizeLaws.{Within, limits-done, limits-within, within, matrix-most, diagonals-most}
+use Rattle.base_parameters.specs.Parameters.{rowLengths, legalBase, legalRows, judgeRows, judgeFlags, LegalRows, Flagged, BaseLent}
 
 -- what the test of the lengths says
 pub record RowLengths (d c k g t t' : ℕ) : Type 0 where
@@ -215,3 +215,25 @@ module _ (𝓕 : PrimeField) where
   pub rows-done : (d c k : ℕ) (g t t' : List ℕ) (L : Bool) (xs : List Lent) → RowsPassed d c k g t t' L xs → judgeRows 𝓕 d c k g t t' L xs ≡ done tt
   rows-done d c k g t t' L xs p =
       sym (after-done (limits-done d c k (p .within)) (pass 3 (p .lengths) (after-done (sym (row-below 𝓕 g t t' xs (p .words) (p .others))) (sym (p .rows)))))
+
+  -- then they are legal, where the test of all lengths asks theirs
+  pub legal-passed : {d c k : ℕ} {g t t' : List ℕ} {L : Bool} {xs : List Lent} → RowsPassed d c k g t t' L xs → rowLengths d c k (length g) (length t) (length t') ≡ true → LegalRows 𝓕 d c k g t t'
+  legal-passed {d} {c} {k} p l = record { within = sym (limits-done d c k (p .within)); lengths = l; words = p .words; legal = p .rows }
+
+-- what is known of legal base matrix and diagonals
+module _ (𝓕 : PrimeField) {d c k : ℕ} {g t t' : List ℕ} (𝓡 : LegalRows 𝓕 d c k g t t') where
+  pub within-of : Within d c k
+  within-of = within d c k (limits-within d c k (𝓡 .within))
+
+  pub lengths-of : RowLengths d c k (length g) (length t) (length t')
+  lengths-of = row-lengths d c k (length g) (length t) (length t') (𝓡 .lengths)
+
+  pub words-of : RowWords 𝓕 g t t'
+  words-of = row-words 𝓕 g t t' (𝓡 .words)
+
+  pub lent-of : RowsLent 𝓕 k (baseSize c k) g
+  lent-of = lent-rate 𝓕 c k g (within-of .least) (within-of .size) (lengths-of .row) (words-of .row)
+
+  -- 5 and 6 are not due
+  pub apart-of : (legalBase 𝓕 k (baseSize c k) g ≡ done tt) × (allDiffer t t' ≡ true)
+  apart-of = let a = both (legalBase 𝓕 k (baseSize c k) g) (𝓡 .legal) in (a .0, demand-held (allDiffer t t') _ (a .1))

@@ -13,7 +13,7 @@ use Rattle.words.specs.Scans.{allBelow}
 use Rattle.places.specs.Inputs.{Lent, inOrder, judgeWords, noZero, noEqual}
 use Rattle.parameters.specs.Parameters.{rowInputs, rowWords}
 use Rattle.base_matrix.specs.Inverting.{baseOk}
-use Rattle.base_parameters.specs.Sizes.{limits, inLimits, baseSize, matrixSize}
+use Rattle.job.specs.Sizes.{limits, inLimits, baseSize, matrixSize}
 
 -- of the lengths of g, T and T'
 unfoldable pub rowLengths : ℕ → ℕ → ℕ → ℕ → ℕ → ℕ → Bool

@@ -1,4 +1,4 @@
-// What is judged of the record, of base matrix and diagonals, as the crate `parameters` does for one base row.
+// What is judged of the record, of base matrix and diagonals.
 ghost use mathlib.Core.Path.{_≡_};
 ghost use mathlib.Core.Bool.{_&&_};
 ghost use mathlib.Core.List.{[]};
@@ -9,11 +9,12 @@ ghost use Rattle.job.specs.Outcome.{outcome, unless, _⨾_};
 ghost use Rattle.places.specs.Inputs.{maxWords, noEqual};
 ghost use Rattle.parameters.specs.Parameters.{Sized};
 ghost use Rattle.base_matrix.specs.Inverting.{baseOk};
-ghost use Rattle.base_parameters.specs.Sizes.{limits, inLimits, baseSize};
+ghost use Rattle.job.specs.Sizes.{limits, inLimits, baseSize};
 ghost use Rattle.base_parameters.specs.Parameters.{rowLengths, legalBase, judgeFlags, Flagged, BaseLent};
-use crate::Parameters;
 use job::Answer;
+use job::Parameters;
 use job::Refusal;
+use job::sizes;
 use places::inputs;
 use residue::Field;
 
@@ -21,11 +22,11 @@ use residue::Field;
 pub fn lengths_ok(p: Parameters, g: usize, t: usize, t2: usize) -> bool
     ensures { λ r. ⌜ r ≡ (inLimits (p .depth) (p .rate) (p .k0) && rowLengths (p .depth) (p .rate) (p .k0) g t t2) ⌝ }
 {
-    if !crate::in_limits(p) {
+    if !sizes::in_limits(p) {
         return false;
     }
-    let n = crate::diagonals_len(p, p.depth);
-    if g != crate::row_len(p) {
+    let n = sizes::diagonals_len(p, p.depth);
+    if g != sizes::row_len(p) {
         return false;
     }
     if t != n {
@@ -38,9 +39,9 @@ pub fn lengths_ok(p: Parameters, g: usize, t: usize, t2: usize) -> bool
 pub fn judge_limits(p: Parameters) -> Answer
     ensures { λ a. ⌜ outcome a ≡ limits (p .depth) (p .rate) (p .k0) ⌝ }
 {
-    let depth = crate::depth_ok(p);
+    let depth = sizes::depth_ok(p);
     let rate = job::rate_ok(p.rate);
-    let k0 = crate::k0_ok(p);
+    let k0 = sizes::k0_ok(p);
     let third = job::require(k0, Refusal::BaseWords, Answer::Done);
     let second = job::require(rate, Refusal::Rate, third);
     job::require(depth, Refusal::Depth, second)
@@ -54,7 +55,7 @@ fn judge_base(p: Parameters, g: &[u32], field: Field) -> Answer
     if p.k0 == 1 {
         return inputs::judge_row(g);
     }
-    if base_matrix::base_ok(p.k0 as usize, crate::base_len(p), g, field) {
+    if base_matrix::base_ok(p.k0 as usize, sizes::base_len(p), g, field) {
         return Answer::Done;
     }
     Answer::Refused(Refusal::BaseRow(0))
@@ -84,13 +85,13 @@ fn nothing_due(
     requires { ⌜ Flagged (chosen field) (p .rate) (p .k0) (now g) lengths words ⌝ }
     ensures { λ r. ⌜ r ≡ (inLimits (p .depth) (p .rate) (p .k0) && (((lengths && words) && apart) && baseOk (chosen field) (p .k0) (baseSize (p .rate) (p .k0)) (now (g .entry)))) ⌝ }
 {
-    if !crate::in_limits(p) {
+    if !sizes::in_limits(p) {
         return false;
     }
     if !(lengths & words & apart) {
         return false;
     }
-    base_matrix::base_ok(p.k0 as usize, crate::base_len(p), g, field)
+    base_matrix::base_ok(p.k0 as usize, sizes::base_len(p), g, field)
 }
 
 // What is due, in its order; what a job is not lent is empty.

@@ -1,8 +1,8 @@
 -- The rounds of an opening over base messages of 2^low words: what is known before each of them, and after the last. Assumes nothing.
-use mathlib.Core.Path.{_≡_, sym, ap, ap₂, _∙_}
+use mathlib.Core.Path.{_≡_, refl, sym, ap, ap₂, _∙_}
 use mathlib.Core.Logic.{⊎-elim}
 use mathlib.Core.List.{List, []}
-use Prim.Native.Nat.{ℕ, suc, _+_, _*_, _-_, _^_, _<_, _≤_}
+use Prim.Native.Nat.{ℕ, zero, suc, _+_, _*_, _-_, _^_, _<_, _≤_}
 use native.Mathlib.Nat.{mul-zero}
 use native.Mathlib.Omega.{arith}
 use lib.ListN.{length, take, drop, getD, length-append, length-take, length-drop, drop-of-length-le}
@@ -25,15 +25,14 @@ use Rattle.polynomial.specs.Eq.{factor}
 use Rattle.residue.specs.declared.Residue.{Residue}
 use Rattle.residue.specs.Elements.{elem}
 use Rattle.residue.specs.ResidueLaws.{is-low, stands}
-use Rattle.rounds.proofs.Agreement.{Agrees, agrees-none, agrees-below, agrees-above, agrees-more, length-put}
-use Rattle.rounds.proofs.AllRounds.{values-at}
-use Rattle.steps.specs.Steps.{roundOf, leftOf, sentWords}
+use Rattle.steps.specs.Steps.{values, roundOf, leftOf, sentWords}
 use Rattle.steps.specs.StepLaws.{length-leftOf}
 use Rattle.base_spread.specs.LentRows.{lentRows, codewordRows}
 use Rattle.base_steps.specs.RowStepLaws.{front-is, h-left}
 use Rattle.base_descend.specs.RowDescending.{blockAbove}
 use Rattle.base_rounds.specs.RowRounds.{RoundInput, RoundResult}
 use Rattle.base_rounds.specs.RowOpening.{openingRows, WriteInput}
+use Rattle.base_rounds.proofs.Agreement.{Agrees, agrees-none, agrees-below, agrees-above, agrees-more, length-put}
 use Rattle.base_rounds.proofs.Target.{point-length, challenges-length, message-power, message-length, length-target, length-coded, target-round, target-block, target-final}
 
 module _ (𝓕 : PrimeField) where
@@ -52,6 +51,12 @@ module _ (𝓕 : PrimeField) where
     pub size : length o ≡ openingSize n low d
     pub rounds : Agrees 0 (3 * (d - i)) (openingRows 𝓕 low k n g t t' m z r) o
     pub blocks : Agrees (3 * d + 2 ^ low) (3 * d + 2 ^ low + n * (2 ^ d - 2 ^ i)) (openingRows 𝓕 low k n g t t' m z r) o
+
+  values-at : (f : Element → Element) (j : ℕ) → j < 3 → getD (values 𝓕 f) j (K .𝟘) ≡ f (num K j)
+  values-at f zero l = refl
+  values-at f (suc zero) l = refl
+  values-at f (suc (suc zero)) l = refl
+  values-at f (suc (suc (suc j))) l = absurd (omega arith)
 
   module _ (d low k n : ℕ) (g t t' m z r : List ℕ) (a b : ℕ) (𝓦 : WriteInput 𝓕 d low k n g t t' m z r a b) where
     abbrev ms : List Element
@@ -160,7 +165,7 @@ module _ (𝓕 : PrimeField) where
           let ly : length (take (suc (low + i)) zs) ≡ suc (low + i) = length-take (suc (low + i)) zs ∙ omega (arith, lz, below) in
           getD-words 𝓕 _ j
           ∙ ap word
-          (values-at 𝓕 (roundOf 𝓕 (elem 𝓕 w) (elements 𝓕 (take (2 ^ suc (low + i)) s)) (elements 𝓕 (take (suc (low + i)) z))) j l
+          (values-at (roundOf 𝓕 (elem 𝓕 w) (elements 𝓕 (take (2 ^ suc (low + i)) s)) (elements 𝓕 (take (suc (low + i)) z))) j l
           ∙ (λ x. roundOf 𝓕 (weight-is x) (above-is x) (elements-take 𝓕 (suc (low + i)) z x) X)
           ∙ ap (λ e. eq K (drop (suc (low + i)) zs) (drop (suc i) rs) ⊠ h K 0 (left (suc i)) (take (suc (low + i)) zs) [] e X) ly
           ∙ h-left K low ms zs rs i X (omega (arith, lz, below)))

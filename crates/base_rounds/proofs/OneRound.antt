@@ -18,7 +18,6 @@ use Rattle.layout.specs.LayoutLaws.{round-within}
 use Rattle.multilinear.specs.Folding.{foldMessage}
 use Rattle.parameters.specs.Lent.{diagonal}
 use Rattle.residue.specs.declared.Residue.{Residue}
-use Rattle.rounds.proofs.Agreement.{drop-put}
 use Rattle.steps.specs.Steps.{leftOf, sentWords}
 use Rattle.steps.specs.StepLaws.{length-leftOf}
 use Rattle.base_spread.specs.LentRows.{lentRows, codewordRows}
@@ -28,6 +27,7 @@ use Rattle.base_steps.specs.RowStepLaws.{front-is}
 use Rattle.base_descend.specs.RowDescending.{blockAbove, foldedAbove, FoldBlockInput}
 use Rattle.base_rounds.specs.RowLaws.{dim-is, round-at}
 use Rattle.base_rounds.specs.RowRounds.{Follows, BlockInput, RoundInput, RoundResult}
+use Rattle.base_rounds.proofs.Agreement.{drop-put}
 
 module _ (𝓕 : PrimeField) where
   open PrimeField 𝓕 using (field as F, words as W)

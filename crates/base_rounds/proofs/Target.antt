@@ -19,8 +19,8 @@ use Rattle.foldable.specs.Code.{Code, encode, size, Legal}
 use Rattle.foldable.specs.Encode.{length-encode}
 use Rattle.multilinear.specs.Folding.{folded, folded-last}
 use Rattle.multilinear.specs.Rounds.{h}
-use Rattle.rounds.specs.Laws.{length-opening}
 use Rattle.base_spread.specs.LentRows.{lentRows}
+use Rattle.base_rounds.specs.OpeningLaws.{length-opening}
 use Rattle.base_rounds.specs.RowLaws.{rows-are, dim-is}
 use Rattle.base_rounds.specs.RowOpening.{openingRows, WriteInput}
 

@@ -1,4 +1,4 @@
--- One row and no low variable make the opening of today; what a round lends to its parts. Assumes nothing.
+-- How many rows and words there are, and what a round lends to its parts. Assumes nothing.
 use mathlib.Core.Path.{_≡_, sym, ap, _∙_}
 use mathlib.Core.List.{List}
 use Prim.Native.Nat.{ℕ, zero, suc, _+_, _*_, _-_, _^_, _<_, _≤_}
@@ -7,17 +7,12 @@ use native.Mathlib.Omega.{arith}
 use lib.ListN.{length}
 use lib.Pow.{pow-add, pow-mono, pow-pos}
 use Rattle.algebra.specs.Words.{PrimeField}
-use Rattle.algebra.specs.WordLists.{elements, toWords}
 use Rattle.basefold.specs.Layout.{roundAt, finalAt, openingSize}
-use Rattle.basefold.specs.Written.{opening}
 use Rattle.foldable.specs.Code.{dim}
 use Rattle.residue.specs.declared.Residue.{Residue}
-use Rattle.rounds.specs.Opening.{openingWords}
 use Rattle.steps.specs.Steps.{GiveRoundInput}
 use Rattle.cofactor.specs.RowLaws.{rows-count}
 use Rattle.base_spread.specs.LentRows.{lentRows, RowCoding}
-use Rattle.base_spread.specs.LentRowLaws.{lent-one}
-use Rattle.base_rounds.specs.RowOpening.{openingRows}
 use Rattle.base_rounds.specs.RowRounds.{RoundInput}
 
 three-low : (low : ℕ) → 3 * low ≤ 2 ^ low + 2 ^ low
@@ -36,9 +31,6 @@ round-at d low i h = let e : low + d - suc (low + i) ≡ d - suc i = omega arith
 
 module _ (𝓕 : PrimeField) where
   open PrimeField 𝓕 using (field as F)
-
-  pub opening-one : (g t t' m z r : List ℕ) → openingRows 𝓕 0 1 (length g) g t t' m z r ≡ openingWords 𝓕 g t t' m z r
-  opening-one g t t' m z r = ap (λ C. toWords 𝓕 (opening F 0 C (elements 𝓕 m) (elements 𝓕 z) (elements 𝓕 r))) (lent-one 𝓕 g t t')
 
   -- the rows are as many as the low variables say, and so are the words of a message
   module _ {d k n : ℕ} (low : ℕ) {g t t' : List ℕ} (𝓒 : RowCoding 𝓕 d k n g t t') (rows : 2 ^ low ≡ k) where

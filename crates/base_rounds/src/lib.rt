@@ -1,6 +1,7 @@
 // The rounds of an opening over base messages of k = 2^low words, from the top variable down to the lowest that is not inside a base message.
 ghost use mathlib.Core.Path.{_≡_};
-ghost use Prim.Native.Nat.{_+_, _*_, _^_};
+ghost use mathlib.Core.Bool.{true};
+ghost use Prim.Native.Nat.{_+_, _*_, _^_, _<_};
 ghost use lib.ListN.{length, take};
 ghost use Rattle.residue.specs.Chosen.{chosen};
 ghost use Rattle.algebra.specs.Lists.{put};
@@ -10,6 +11,20 @@ ghost use Rattle.base_rounds.specs.RowRounds.{BlockInput, RoundInput, Ro
 ghost use Rattle.base_rounds.specs.RowOpening.{openingRows, WriteInput};
 use residue::Field;
 use residue::Residue;
+
+// The blocks below this level are so short that encoding takes less time than a fold with its one inversion.
+const FOLDED_FROM: u32 = 6;
+
+// Whether the block of level i is made from the block above it, which has to lie in the opening.
+fn folds(depth: u32, i: u32) -> bool
+    requires { ⌜ i < depth ⌝ }
+    ensures { λ b. ⌜ (b ≡ true → i + 1 < depth) ⌝ }
+{
+    if i < FOLDED_FROM {
+        return false;
+    }
+    i + 1 < depth
+}
 
 // The block of level i, the codeword of what is left, into its place: the fold of the block above it, or encoded.
 fn block(
@@ -29,7 +44,7 @@ fn block(
     requires { ⌜ BlockInput (chosen field) depth low i k n (now g) (now t) (now t2) (now r) (now opening) (now work) ⌝ }
     ensures { λ _. ⌜ now (opening .exit) ≡ put (blockAt n low depth i) (codewordRows (chosen field) i k n (now (g .entry)) (now (t .entry)) (now (t2 .entry)) (take (2 ^ (low + i)) (now (work .entry)))) (now (opening .entry)) ⌝ }
 {
-    if rounds::folds(depth, i) {
+    if folds(depth, i) {
         base_descend::fold_block(depth, low, i, &g[..n], t, t2, r, opening, field);
         return;
     }

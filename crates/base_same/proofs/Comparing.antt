@@ -31,7 +31,8 @@ use Rattle.parameters.specs.Lent.{diagonal}
 use Rattle.columns.specs.Steps.{lentColumn, ColumnLent}
 use Rattle.columns.proofs.Comparing.{words-every}
 use Rattle.cofactor.specs.Rows.{rows}
-use Rattle.cofactor.specs.RowLaws.{size-least, size-most, rows-count}
+use Rattle.job.specs.SizeLaws.{size-least, size-most}
+use Rattle.cofactor.specs.RowLaws.{rows-count}
 use Rattle.base_spread.specs.LentRows.{lentRows, codewordRows, RowCoding}
 use Rattle.base_spread.specs.LentRowLaws.{lift-same, first-within, first-coding}
 use Rattle.base_spread.specs.Steps.{blockOf}

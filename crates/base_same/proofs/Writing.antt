@@ -2,6 +2,7 @@
 use mathlib.Core.Path.{_≡_, refl, sym, ap, ap₂, _∙_}
 use mathlib.Core.List.{List, _++_}
 use Prim.Native.Nat.{ℕ, _+_, _*_, _-_, _<_, _≤_}
+use native.Mathlib.Nat.{zero-mul}
 use native.Mathlib.Numerals.{add-one}
 use native.Mathlib.Omega.{arith}
 use lib.ListN.{length, take, drop, getD, set, length-append, length-take, length-drop, length-replicate, getD-replicate, replicate}
@@ -143,3 +144,29 @@ module _ (𝓕 : PrimeField) where
 
       pub column-end : i ≤ q → q ≤ i → w ≡ paste o h X q
       column-end l m = let e : i ≡ q = omega arith in p ∙ ap (paste o h X) e
+
+  -- base messages of one word
+  module _ (n q j : ℕ) (g o : List ℕ) (𝓑 : BaseLent 𝓕 1 n q j g o) (i : ℕ) (w : List ℕ) (p : w ≡ paste o (1 * q) (columnWords 𝓕 1 n q j g (take (1 * q) o)) i) (l : i < q) where
+    one : i ≡ 1 * i
+    one = omega arith
+
+    abbrev group : List ℕ
+    group = take (i + 1 - i) (drop i w)
+
+    alone : getD group 0 0 ≡ getD w i 0
+    alone = let e : i + 0 ≡ i = omega arith in getD-take (i + 1 - i) (drop i w) 0 0 (omega arith) ∙ getD-drop i w 0 0 ∙ ap (λ a. getD w a 0) e
+
+    lent₁ : WordLent 𝓕 n j g group
+    lent₁ = word-lent 1 n q j g o 𝓑 i i w one p l
+
+    single : length group ≡ 1
+    single = length-group 1 n q j g o 𝓑 i i w one p l
+
+    pub scaled-low : getD w i 0 < P
+    scaled-low = rw (sym alone) (lent₁ .low .low 0 (omega (arith, single)))
+
+    pub scaled-turn : (v : ℕ) → v ≡ sumProduct 𝓕 0 (getD w i 0) (getD g j 0) → set w (q + i) v ≡ paste o (1 * q) (columnWords 𝓕 1 n q j g (take (1 * q) o)) (i + 1)
+    scaled-turn v e =
+        let place : q + i ≡ 1 * q + i = omega arith in
+        let turn = word-turn n j g group lent₁ 0 0 j (omega (arith, single)) (omega (arith, zero-mul n)) (word-none n j g group lent₁) v (e ∙ ap (λ x. sumProduct 𝓕 0 x (getD g j 0)) (sym alone)) in
+        ap (λ a. set w a v) place ∙ column-turn 1 n q j g o 𝓑 i i w one p l v (word-end n j g group lent₁ 1 v (omega (arith, single)) turn)

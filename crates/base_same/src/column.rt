@@ -26,7 +26,7 @@ fn block_word(n: usize, j: usize, g: &[u32], m: &[u32], field: Field) -> u32
 }
 
 // Behind the q base messages in front of w, word j of the base block of each.
-pub fn write_column(k: usize, n: usize, q: usize, j: usize, g: &[u32], w: &mut [u32], field: Field)
+fn write_words(k: usize, n: usize, q: usize, j: usize, g: &[u32], w: &mut [u32], field: Field)
     requires { ⌜ BaseLent (chosen field) k n q j (now g) (now w) ⌝ }
     ensures { λ _. ⌜ now (w .exit) ≡ paste (now (w .entry)) (k * q) (columnWords (chosen field) k n q j (now (g .entry)) (take (k * q) (now (w .entry)))) q ⌝ }
 {
@@ -41,4 +41,29 @@ pub fn write_column(k: usize, n: usize, q: usize, j: usize, g: &[u32], w: &mut [
         a = e;
         i += 1;
     }
+}
+
+// The same for base messages of one word: a loop without another in it.
+fn write_scaled(n: usize, q: usize, j: usize, g: &[u32], w: &mut [u32], field: Field)
+    requires { ⌜ BaseLent (chosen field) 1 n q j (now g) (now w) ⌝ }
+    ensures { λ _. ⌜ now (w .exit) ≡ paste (now (w .entry)) (1 * q) (columnWords (chosen field) 1 n q j (now (g .entry)) (take (1 * q) (now (w .entry)))) q ⌝ }
+{
+    let x = g[j];
+    let mut i = 0;
+    while i < q {
+        let p = q + i;
+        w[p] = entry::plus_product(0, w[i], x, field);
+        i += 1;
+    }
+}
+
+pub fn write_column(k: usize, n: usize, q: usize, j: usize, g: &[u32], w: &mut [u32], field: Field)
+    requires { ⌜ BaseLent (chosen field) k n q j (now g) (now w) ⌝ }
+    ensures { λ _. ⌜ now (w .exit) ≡ paste (now (w .entry)) (k * q) (columnWords (chosen field) k n q j (now (g .entry)) (take (k * q) (now (w .entry)))) q ⌝ }
+{
+    if k == 1 {
+        write_scaled(n, q, j, g, w, field);
+        return;
+    }
+    write_words(k, n, q, j, g, w, field);
 }

@@ -13,7 +13,8 @@ use Rattle.blocks.specs.Base.{baseBlocks}
 use Rattle.blocks.specs.Lifted.{lift-base}
 use Rattle.parameters.specs.Lent.{lent}
 use Rattle.code.specs.Steps.{LiftInput}
-use Rattle.cofactor.specs.RowLaws.{size-least, rows-count}
+use Rattle.job.specs.SizeLaws.{size-least}
+use Rattle.cofactor.specs.RowLaws.{rows-count}
 use Rattle.base_spread.specs.LentRows.{lentRows}
 use Rattle.base_spread.specs.LentRowLaws.{first-within, lift-rows, first-coding}
 use Rattle.base_spread.specs.Steps.{SpreadLent, blocksOf, EncodeLent}

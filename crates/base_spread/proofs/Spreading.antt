@@ -1,9 +1,9 @@
 -- The base blocks of a message, one by one. Assumes nothing.
 use mathlib.Core.Path.{_≡_, sym, ap, ap₂, _∙_}
-use mathlib.Core.List.{List, _++_, flatMap}
+use mathlib.Core.List.{List, [], _++_, flatMap}
 use mathlib.Core.Logic.{⊎-elim}
 use Prim.Native.Nat.{ℕ, zero, suc, _+_, _*_, _-_, _/_, _<_, _≤_}
-use native.Mathlib.Nat.{mul-comm, mul-zero, mul-suc, mul-le-mul-left}
+use native.Mathlib.Nat.{mul-comm, mul-zero, mul-suc, one-mul, mul-le-mul-left}
 use native.Mathlib.Omega.{arith}
 use lib.ListN.{length, take, drop, length-take, length-drop}
 use lib.Seq.{take-at, drop-at, drop-drop}
@@ -13,10 +13,17 @@ use Rattle.algebra.specs.Lists.{row, length-row, map-take, map-drop, length-fla
 use Rattle.algebra.specs.Matrix.{times, length-times}
 use Rattle.algebra.specs.Order.{lt-or-ge}
 use Rattle.algebra.specs.Words.{Words, PrimeField}
-use Rattle.algebra.specs.WordLists.{low-take, low-drop, elements, toWords, length-words, elements-take, elements-drop}
+use Rattle.algebra.specs.WordLists.{low-take, low-drop, elements, toWords, length-elements, length-words, elements-take, elements-drop}
+use Rattle.foldable.specs.Lift.{spread}
+use Rattle.parameters.specs.Lent.{diagonal}
 use Rattle.blocks.specs.Base.{baseMessages, baseBlocks}
+use Rattle.blocks.specs.Lifted.{spread-blocks}
+use Rattle.code.specs.Steps.{SpreadInput}
 use Rattle.cofactor.specs.Rows.{rows}
-use Rattle.cofactor.specs.RowLaws.{size-least, rows-count, rows-wide}
+use Rattle.job.specs.SizeLaws.{size-least}
+use Rattle.cofactor.specs.RowLaws.{rows-count, rows-wide}
+use Rattle.base_spread.specs.LentRows.{lentRows}
+use Rattle.base_spread.specs.LentRowLaws.{lent-one}
 use Rattle.base_spread.specs.Steps.{BlockLent, blockOf, SpreadLent, blocksOf}
 
 -- list j of several lists of n elements, one behind the other
@@ -134,3 +141,23 @@ module _ (𝓕 : PrimeField) (k n : ℕ) (g m old : List ℕ) (𝓢 : SpreadLent
           ∙ map-take word n (drop (n * j) all)
           ∙ ap (take n) (map-drop word (n * j) all)
           ∙ ap₂ (λ c d. take c (drop d (toWords 𝓕 all))) (sym e) (sym (𝓡 .in-blocks))
+
+  -- one word a base message: each word times the row
+  module _ (e : k ≡ 1) where
+    row-is : length g ≡ n
+    row-is = 𝓢 .lent .long ∙ ap (λ c. c * n) e ∙ one-mul n
+
+    words-are : length m ≡ q
+    words-are = 𝓢 .whole ∙ ap (λ c. c * q) e ∙ one-mul q
+
+    pub one-input : SpreadInput 𝓕 m g old
+    one-input = record { message = 𝓢 .low; row = 𝓢 .lent .low; size = 𝓢 .size ∙ mul-comm n q ∙ ap₂ _*_ (sym words-are) (sym row-is) }
+
+    pub one-blocks : toWords 𝓕 (spread F (elements 𝓕 g) (elements 𝓕 m)) ≡ blocksOf 𝓕 k n g m
+    unfolding blocksOf
+    one-blocks =
+        let T : ℕ → List Element = λ i. elements 𝓕 (diagonal (length g) [] i) in
+        ap (toWords 𝓕)
+        (spread-blocks F (elements 𝓕 g) T T (elements 𝓕 m)
+        ∙ ap₂ (λ C c. baseBlocks F C c (elements 𝓕 m)) (sym (lent-one 𝓕 g [] [])) (length-elements 𝓕 m ∙ words-are)
+        ∙ ap₂ (λ c r. baseBlocks F (lentRows 𝓕 c r g [] []) q (elements 𝓕 m)) (sym e) row-is)

@@ -1,8 +1,8 @@
 -- A base message times the base matrix, row by row. Assumes nothing.
-use mathlib.Core.Path.{_≡_, sym, ap, ap₂, _∙_}
+use mathlib.Core.Path.{_≡_, refl, sym, ap, ap₂, _∙_}
 use mathlib.Core.List.{List, [], _∷_}
 use Prim.Native.Nat.{ℕ, zero, suc, _+_, _*_, _-_, _<_, _≤_}
-use native.Mathlib.Nat.{zero-mul}
+use native.Mathlib.Nat.{zero-mul, one-mul}
 use native.Mathlib.Numerals.{add-one}
 use native.Mathlib.Omega.{arith}
 use lib.ListN.{length, getD, take, drop, length-take, length-drop, length-map}
@@ -13,11 +13,13 @@ use Rattle.algebra.specs.Lists.{row, getD-row}
 use Rattle.algebra.specs.Vector.{Vectors, vectors, sum-assoc, sum-zeros, zeros-sum}
 use Rattle.algebra.specs.Matrix.{Wide, times, length-times}
 use Rattle.algebra.specs.Words.{Words, PrimeField}
-use Rattle.algebra.specs.WordLists.{low-take, low-drop, low-words, elements, toWords, length-elements, length-words, elements-words, getD-elements}
+use Rattle.algebra.specs.WordLists.{Low, low-take, low-drop, elements, toWords, length-elements, length-words, elements-words, getD-elements}
 use Rattle.code.specs.Steps.{times as timesRow}
 use Rattle.cofactor.specs.Rows.{rows}
-use Rattle.cofactor.specs.RowLaws.{size-least, row-within, rows-count, rows-wide}
-use Rattle.base_spread.specs.Steps.{AddLent, addedScaled, BlockLent, blockOf}
+use Rattle.job.specs.Sizes.{Size, one, two, four}
+use Rattle.job.specs.SizeLaws.{size-least}
+use Rattle.cofactor.specs.RowLaws.{row-within, rows-count, rows-wide}
+use Rattle.base_spread.specs.Steps.{addedScaled, twoScaled, fourScaled, TwoLent, FourLent, BlockLent, blockOf}
 
 module _ (K : Ring) where
   infixl 66 _⊕_
@@ -91,13 +93,13 @@ module _ (𝓕 : PrimeField) where
         let sized : length v ≡ n = length-map (elements 𝓕 (take n (drop (0 * n) g))) _ ∙ length-elements 𝓕 _ ∙ ap length same ∙ first-length in
         record { is = q ∙ ap (toWords 𝓕) (ap₂ (λ x s. el x ⊛ elements 𝓕 s) p (sym same) ∙ sym (zeros-sum K n v sized) ∙ sym (next 0 some)) }
 
+    -- word j and the row that it takes
     module _ (j b e : ℕ) (h : j < length m) (p : b ≡ j * n) (q : e ≡ b + n) where
       part-length : length (part b e) ≡ n
       part-length = length-take (e - b) (drop b g) ∙ omega (arith, length-drop b g, within j b h p)
 
-      pub add-lent : {a : ℕ} {out : List ℕ} → a ≡ getD m j 0 → length out ≡ n → Summed j n g m out → AddLent 𝓕 a (part b e) out
-      add-lent {a} {out} f l s =
-          record { factor = rw f (𝓑 .low .low j h); row = low-take (e - b) (low-drop b (𝓑 .lent .low)); block = rw (s .is) (low-words 𝓕 _); size = l ∙ sym part-length }
+      factor-low : {a : ℕ} → a ≡ getD m j 0 → a < P
+      factor-low f = rw f (𝓑 .low .low j h)
 
       pub summed-turn : {a : ℕ} {out : List ℕ} (r : List ℕ) → a ≡ getD m j 0 → Summed j n g m out → r ≡ addedScaled 𝓕 a (part b e) out → Summed (j + 1) n g m r
       unfolding addedScaled
@@ -114,3 +116,83 @@ module _ (𝓕 : PrimeField) where
     pub summed-end : {j : ℕ} {out : List ℕ} → length m ≤ j → Summed j n g m out → out ≡ blockOf 𝓕 n g m
     unfolding blockOf
     summed-end {j} {out} h s = s .is ∙ ap (λ v. toWords 𝓕 (times K n v G)) (take-all j (elements 𝓕 m) (omega (arith, length-elements 𝓕 m)))
+
+    part-low : (b e : ℕ) → Low P (part b e)
+    part-low b e = low-take (e - b) (low-drop b (𝓑 .lent .low))
+
+    -- two words and their rows
+    module _ (two : length m ≡ 2) {a b e : ℕ} (p : a ≡ getD m 0 0) (q : b ≡ getD m 1 0) (f : e ≡ n + n) where
+      pub two-lent : TwoLent 𝓕 a b (take n g) (part n e) old
+      two-lent =
+          record {
+            factor = factor-low 0 0 n (omega arith) (sym (zero-mul n)) (omega arith) p;
+            factor' = factor-low 1 n e (omega arith) (sym (one-mul n)) f q;
+            row = low-take n (𝓑 .lent .low);
+            row' = part-low n e;
+            size = first-length ∙ sym (𝓑 .size);
+            size' = part-length 1 n e (omega arith) (sym (one-mul n)) f ∙ sym (𝓑 .size);
+          }
+
+      pub two-block : (r : List ℕ) → r ≡ twoScaled 𝓕 a b (take n g) (part n e) → r ≡ blockOf 𝓕 n g m
+      two-block r t = summed-end (omega arith) (summed-turn 1 n e (omega arith) (sym (one-mul n)) f r q (summed-first _ p refl) t)
+
+    -- four words and their rows
+    module _ (four : length m ≡ 4) {a b c d e f l : ℕ} (p : a ≡ getD m 0 0) (q : b ≡ getD m 1 0) (r : c ≡ getD m 2 0) (s : d ≡ getD m 3 0) (x : e ≡ n + n) (y : f ≡ e + n) (z : l ≡ f + n) where
+      second : e ≡ 2 * n
+      second = omega arith
+
+      third : f ≡ 3 * n
+      third = omega arith
+
+      pub four-lent : FourLent 𝓕 a b c d (take n g) (part n e) (part e f) (part f l) old
+      four-lent =
+          record {
+            front =
+                record {
+                  factor = factor-low 0 0 n (omega arith) (sym (zero-mul n)) (omega arith) p;
+                  factor' = factor-low 1 n e (omega arith) (sym (one-mul n)) x q;
+                  row = low-take n (𝓑 .lent .low);
+                  row' = part-low n e;
+                  size = first-length ∙ sym (𝓑 .size);
+                  size' = part-length 1 n e (omega arith) (sym (one-mul n)) x ∙ sym (𝓑 .size);
+                };
+            back =
+                record {
+                  factor = factor-low 2 e f (omega arith) second y r;
+                  factor' = factor-low 3 f l (omega arith) third z s;
+                  row = part-low e f;
+                  row' = part-low f l;
+                  size = part-length 2 e f (omega arith) second y ∙ sym (𝓑 .size);
+                  size' = part-length 3 f l (omega arith) third z ∙ sym (𝓑 .size);
+                };
+          }
+
+      pub four-block : (v : List ℕ) → v ≡ fourScaled 𝓕 a b c d (take n g) (part n e) (part e f) (part f l) → v ≡ blockOf 𝓕 n g m
+      four-block v t =
+          summed-end (omega arith)
+          (summed-turn 3 f l (omega arith) third z v s
+          (summed-turn 2 e f (omega arith) second y _ r (summed-turn 1 n e (omega arith) (sym (one-mul n)) x _ q (summed-first _ p refl) refl) refl)
+          t)
+
+    -- one word and its row
+    module _ (one : length m ≡ 1) {a : ℕ} (p : a ≡ getD m 0 0) where
+      one-row : take n g ≡ g
+      one-row = take-all n g (omega (arith, 𝓑 .lent .long, ap (λ k. k * n) one))
+
+      pub one-size : length old ≡ length g
+      one-size = 𝓑 .size ∙ sym first-length ∙ ap length one-row
+
+      pub one-low : a < P
+      one-low = rw p (𝓑 .low .low 0 some)
+
+      pub one-block : (r : List ℕ) → r ≡ toWords 𝓕 (timesRow 𝓕 (el a) (elements 𝓕 g)) → r ≡ blockOf 𝓕 n g m
+      one-block r t = summed-end (omega arith) (summed-first r p (t ∙ ap (λ v. toWords 𝓕 (timesRow 𝓕 (el a) (elements 𝓕 v))) (sym one-row)))
+
+    -- a base message has 1, 2 or 4 words
+    pub else-four : (length m ≡ 1 → ⊥) → (length m ≡ 2 → ⊥) → length m ≡ 4
+    else-four x y = by (𝓑 .lent .size) x y
+      where
+        by : {k : ℕ} → Size k → (k ≡ 1 → ⊥) → (k ≡ 2 → ⊥) → k ≡ 4
+        by one x y = absurd (x refl)
+        by two x y = absurd (y refl)
+        by four x y = refl

@@ -19,7 +19,8 @@ use Rattle.words.specs.Scans.{allDiffer}
 use Rattle.parameters.specs.Lent.{diagonal, lent, codeword, Coding}
 use Rattle.parameters.specs.LentLaws.{coding}
 use Rattle.cofactor.specs.Rows.{rows, Lent}
-use Rattle.cofactor.specs.RowLaws.{size-least, row-within, rows-wide}
+use Rattle.job.specs.SizeLaws.{size-least}
+use Rattle.cofactor.specs.RowLaws.{row-within, rows-wide}
 use Rattle.base_spread.specs.LentRows.{lentRows, codewordRows, RowCoding}
 
 -- codes with blocks of the same sizes and the same diagonals have the same levels above the base

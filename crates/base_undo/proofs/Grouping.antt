@@ -2,14 +2,14 @@
 use mathlib.Core.Path.{_≡_, sym, ap, ap₂, subst, _∙_}
 use mathlib.Core.List.{List, _++_}
 use Prim.Native.Nat.{ℕ, suc, _+_, _*_, _-_, _<_, _≤_}
-use native.Mathlib.Nat.{mul-zero, mul-suc, mul-add, mul-le-mul, mul-le-mul-left}
+use native.Mathlib.Nat.{one-mul, mul-zero, mul-suc, mul-add, mul-le-mul, mul-le-mul-left}
 use native.Mathlib.Numerals.{add-one}
 use native.Mathlib.Omega.{arith}
-use lib.ListN.{length, take, drop, getD, length-append, length-drop}
-use lib.Seq.{take-at, drop-at, take-append-le, drop-append-le, getD-drop}
+use lib.ListN.{length, take, drop, getD, length-append, length-take, length-drop}
+use lib.Seq.{take-at, drop-at, take-append-le, drop-append-le, getD-take, getD-drop, ext-getD}
 use borrow.Rule.Slice.PartMut.{putMid}
 use Rattle.algebra.specs.Filling.{Filled, filled-none, filled-old, filled-length}
-use Rattle.algebra.specs.Lists.{row, row-ext}
+use Rattle.algebra.specs.Lists.{row, getD-row, row-ext}
 use Rattle.algebra.specs.Parts.{tail-part, put-tail, filled-part}
 use Rattle.inversion.specs.Strides.{stride-next}
 use Rattle.job.specs.Limits.{maxMessage}
@@ -114,3 +114,21 @@ module _ (k q : ℕ) (old : List ℕ) (𝓖 : GroupsLent k q old) where
   grouped-end {out} {j} h l p =
       let e : j ≡ q = omega arith in
       ap (take (k * q)) (filled-over 0 length-new (drop-at groups (drop (k * q) old) (k * q) length-groups) (rw e at p)) ∙ take-at groups (drop (k * q) old) (k * q) length-groups
+
+  -- one column is its own groups
+  pub one-column : k ≡ 1 → take (k * q) old ≡ groups
+  one-column e =
+      let words : k * q ≡ q = ap (λ c. c * q) e ∙ one-mul q in
+      let all : length (take (k * q) old) ≡ k * q = length-take (k * q) old ∙ omega (arith, 𝓖 .within) in
+      ext-getD 0 (take (k * q) old) groups (all ∙ sym length-groups)
+      (λ i h.
+      let in-column : i < q = omega arith in
+      let place : k * i + 0 ≡ i = omega (arith, ap (λ c. c * i) e ∙ one-mul i) in
+      let word : (k - 1) * q + 0 * q + i ≡ i = omega (arith, ap (λ c. (c - 1) * q) e) in
+      getD-take (k * q) old i 0 (omega arith)
+      ∙ ap (λ p. getD old p 0) (sym word)
+      ∙ sym (getD-row k (λ b. columnWord k q old b i) 0 0 (𝓖 .some))
+      ∙ ap (λ v. getD v 0 0) (sym (group-is k q (columnWord k q old) i in-column))
+      ∙ getD-take k (drop (k * i) groups) 0 0 (𝓖 .some)
+      ∙ getD-drop (k * i) groups 0 0
+      ∙ ap (λ p. getD groups p 0) place)

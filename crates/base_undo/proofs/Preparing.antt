@@ -4,16 +4,14 @@ use mathlib.Core.List.{List, _++_, append-assoc}
 use Prim.Native.Nat.{ℕ, _+_, _*_, _-_, _^_, _<_, _≤_}
 use native.Mathlib.Nat.{mul-comm}
 use native.Mathlib.Omega.{arith}
-use lib.ListN.{length, take, drop, length-append, length-take, length-drop}
+use lib.ListN.{length, take, drop, length-append, length-take, length-drop, take-append-drop}
 use lib.Pow.{pow-pos}
 use lib.Seq.{take-at}
-use borrow.Rule.Slice.PartMut.{putMid}
 use Rattle.algebra.specs.Words.{PrimeField}
 use Rattle.foldable.specs.Every.{every}
 use Rattle.job.specs.LimitLaws.{power-most}
 use Rattle.job.specs.Limits.{maxMessage, maxBlock}
 use Rattle.inversion.specs.Inversion.{gapInverses, Diagonals}
-use Rattle.inversion.specs.InversionLaws.{length-rows}
 use Rattle.base_undo.specs.Steps.{ColumnInput}
 
 module _ (𝓕 : PrimeField) where
@@ -48,22 +46,14 @@ module _ (𝓕 : PrimeField) where
       pub end-within : q + (q - 1) ≤ length (l ++ drop q work)
       end-within = omega (arith, whole, room)
 
-      abbrev part : List ℕ
-      part = take (q + (q - 1) - q) (drop q (l ++ drop q work))
-
-      length-part : length part ≡ 2 ^ d - 1
-      length-part = length-take (q + (q - 1) - q) (drop q (l ++ drop q work)) ∙ omega (arith, length-drop q (l ++ drop q work), whole, room)
-
-      pub inverting : Diagonals 𝓕 n (length part) t t'
-      inverting = rw length-part (diagonals 𝓓)
-
       -- the column, and behind it the inverses
-      pub prepared : (r : List ℕ) → l ≡ every 0 n 0 (length (take q work)) b → r ≡ gapInverses 𝓕 n (length part) t t'
-          → take (2 ^ d + (2 ^ d - 1)) (putMid q (q + (q - 1) - q) (l ++ drop q work) r) ≡ every 0 n 0 (2 ^ d) b ++ gapInverses 𝓕 n (2 ^ d - 1) t t'
-      prepared r p s =
-          let lr : length r ≡ 2 ^ d - 1 = ap length s ∙ length-rows 𝓕 (length part) _ ∙ length-part in
-          let e : 2 ^ d + (2 ^ d - 1) ≡ q + (q - 1) = omega arith in
-          let rest = drop (q + (q - 1) - q) (drop q (l ++ drop q work)) in
-          ap₂ take e (ap (λ v. v ++ (r ++ rest)) (take-at l (drop q work) q length-l) ∙ sym (append-assoc l r rest))
+      pub prepared : l ≡ every 0 n 0 (length (take q work)) b → take (2 ^ d - 1) (drop (2 ^ d) work) ≡ gapInverses 𝓕 n (2 ^ d - 1) t t'
+          → take (q + (q - 1)) (l ++ drop q work) ≡ every 0 n 0 (2 ^ d) b ++ gapInverses 𝓕 n (2 ^ d - 1) t t'
+      prepared p s =
+          let r = take (q - 1) (drop q work) in
+          let rest = drop (q - 1) (drop q work) in
+          let lr : length r ≡ q - 1 = length-take (q - 1) (drop q work) ∙ omega (arith, length-drop q work, room) in
+          ap (λ v. take (q + (q - 1)) (l ++ v)) (sym (take-append-drop (q - 1) (drop q work)))
+          ∙ ap (take (q + (q - 1))) (sym (append-assoc l r rest))
           ∙ take-at (l ++ r) rest (q + (q - 1)) (length-append l r ∙ omega (arith, length-l))
-          ∙ ap₂ _++_ (p ∙ ap (λ k. every 0 n 0 k b) (length-take q work ∙ omega (arith, room) ∙ en)) (s ∙ ap (λ k. gapInverses 𝓕 n k t t') length-part)
+          ∙ ap₂ _++_ (p ∙ ap (λ k. every 0 n 0 k b) (length-take q work ∙ omega (arith, room) ∙ en)) (ap (λ k. take (k - 1) (drop k work)) en ∙ s)

@@ -13,6 +13,7 @@ use Rattle.algebra.specs.Words.{PrimeField}
 use Rattle.algebra.specs.WordLists.{low-drop, elements, toWords}
 use Rattle.foldable.specs.Decode.{undo}
 use Rattle.foldable.specs.Every.{every}
+use Rattle.inversion.specs.Inversion.{gapInverses}
 use Rattle.inversion.specs.Strides.{stride-within}
 use Rattle.base_undo.specs.Steps.{columnDiagonal, columnOf, undoneWords, ColumnInput, BlockInput}
 
@@ -89,3 +90,7 @@ module _ (𝓕 : PrimeField) where
 
     pub column-undone : {v : List ℕ} → v ≡ undoneWords 𝓕 d n 0 first second block → v ≡ undoneWords 𝓕 d n b t t' w
     column-undone e = e ∙ (λ k. undoneWords 𝓕 d n 0 (first-is k) (second-is k) (block-is k)) ∙ undone-from d n b t t' w
+
+    -- the inverses of column b are those of what is lent
+    pub inverses-from : {v : List ℕ} (m : ℕ) → v ≡ gapInverses 𝓕 n m (drop b t) (drop b t') → v ≡ gapInverses 𝓕 n m first second
+    inverses-from m e = e ∙ (λ k. gapInverses 𝓕 n m (sym first-is k) (sym second-is k))

@@ -22,7 +22,7 @@ fn draw(k: usize, r: usize, q: usize, w: &mut [u32])
 
 // The k columns of q words that stand from (k - 1) q on, as q groups of k words in front. Group j ends with or before word j of the first column, so no
 // word is overwritten before it is read.
-pub fn regroup(k: usize, q: usize, w: &mut [u32])
+fn regroup_columns(k: usize, q: usize, w: &mut [u32])
     requires { ⌜ GroupsLent k q (now w) ⌝ }
     ensures { λ _. ⌜ take (k * q) (now (w .exit)) ≡ grouped k q (columnWord k q (now (w .entry))) ⌝ }
 {
@@ -33,4 +33,15 @@ pub fn regroup(k: usize, q: usize, w: &mut [u32])
         draw(k, r, q, &mut w[i..]);
         j += 1;
     }
+}
+
+// One column is its own groups.
+pub fn regroup(k: usize, q: usize, w: &mut [u32])
+    requires { ⌜ GroupsLent k q (now w) ⌝ }
+    ensures { λ _. ⌜ take (k * q) (now (w .exit)) ≡ grouped k q (columnWord k q (now (w .entry))) ⌝ }
+{
+    if k == 1 {
+        return;
+    }
+    regroup_columns(k, q, w);
 }

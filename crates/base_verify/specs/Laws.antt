@@ -1,4 +1,4 @@
--- What the tests of a job say makes what base and fold checks are lent; and with one base row the checks are those of `lent`. Assumes nothing.
+-- What the tests of a job say makes what base and fold checks are lent. Assumes nothing.
 use mathlib.Core.Path.{_≡_, sym, ap, _∙_}
 use mathlib.Core.Bool.{true}
 use mathlib.Core.List.{List}
@@ -8,15 +8,12 @@ use native.Mathlib.Omega.{arith}
 use lib.ListN.{length}
 use Rattle.algebra.specs.Words.{PrimeField}
 use Rattle.algebra.specs.WordLists.{Low as LowWords}
-use Rattle.basefold.specs.Checks.{checks}
 use Rattle.job.specs.Limits.{blockSize, diagonalsSize}
 use Rattle.words.specs.Scans.{allDiffer}
-use Rattle.parameters.specs.Lent.{lent}
 use Rattle.cofactor.specs.RowLaws.{lent-rate}
-use Rattle.base_parameters.specs.Sizes.{baseSize, matrixSize, low, openingSize}
-use Rattle.base_parameters.specs.SizeLaws.{Within, base-most}
-use Rattle.base_spread.specs.LentRows.{lentRows}
-use Rattle.base_spread.specs.LentRowLaws.{lent-one, row-coding}
+use Rattle.job.specs.Sizes.{baseSize, matrixSize, low, openingSize}
+use Rattle.job.specs.SizeLaws.{Within, base-most}
+use Rattle.base_spread.specs.LentRowLaws.{row-coding}
 use Rattle.base_walks.specs.Steps.{RowSizes, RowsInput}
 
 -- depth d, rate c and k words a base message, within the limits
@@ -26,7 +23,7 @@ row-sizes {d} {c} {k} 𝓦 =
     record { depth = 𝓦 .depth; wide = base-most 𝓦; words = sym (𝓦 .power); few = omega arith }
 
 module _ (𝓕 : PrimeField) where
-  open PrimeField 𝓕 using (modulus as P, field as F)
+  open PrimeField 𝓕 using (modulus as P)
 
   -- exact lengths, words below the modulus, diagonals that differ
   pub rows-input : {d c k : ℕ} {g t t' w r o : List ℕ} → Within d c k → length g ≡ matrixSize c k → length t ≡ diagonalsSize (baseSize c k) d → length t' ≡ diagonalsSize (baseSize c k) d
@@ -43,8 +40,3 @@ module _ (𝓕 : PrimeField) where
         opened = eo ∙ ap (λ m. 3 * d + m + diagonalsSize (baseSize c k) d) (sym (𝓦 .power));
         opening = lo;
       }
-
-  -- with one base row, the checks of today's code
-  pub checks-one : (g t t' : List ℕ) (w z : List (F .ring .R)) (y : F .ring .R) (r : List (F .ring .R)) (us : List ℕ) (o : List (F .ring .R))
-      → checks F 0 (lentRows 𝓕 1 (length g) g t t') w z y r us o ≡ checks F 0 (lent 𝓕 g t t') w z y r us o
-  checks-one g t t' w z y r us o = ap (λ C. checks F 0 C w z y r us o) (lent-one 𝓕 g t t')

@@ -1,4 +1,4 @@
-// The claims: the sums as for one base word, and the final check of the last claim, for v of k words.
+// The claims: the sums, and the final check of the last claim, for v of k words.
 ghost use mathlib.Core.Path.{_≡_};
 ghost use Rattle.algebra.specs.WordLists.{elements};
 ghost use Rattle.basefold.specs.Checks.{firstFailure, sumsFrom, sums as sumChecks};

@@ -1,19 +1,32 @@
 -- Where blocks begin and end, as it is computed. Assumes nothing.
-use mathlib.Core.Path.{_≡_, ap, ap₂, _∙_}
+use mathlib.Core.Path.{_≡_, sym, ap, ap₂, _∙_}
 use mathlib.Core.List.{List}
-use Prim.Native.Nat.{ℕ, _+_, _*_, _-_, _^_, _≤_}
-use native.Mathlib.Nat.{mul-le-mul}
+use Prim.Native.Nat.{ℕ, suc, _+_, _*_, _-_, _^_, _≤_, _<_}
+use native.Mathlib.Nat.{mul-le-mul, mul-add, add-assoc}
 use native.Mathlib.Numerals.{add-one}
 use native.Mathlib.Omega.{arith}
 use lib.ListN.{take, drop}
-use Rattle.basefold.specs.Layout.{finalAt, blockAt}
-use Rattle.job.specs.Limits.{maxDepth, maxMessage}
+use lib.Pow.{pow-mono, pow-pos}
+use Rattle.basefold.specs.Layout.{finalAt, blockAt, openingSize}
+use Rattle.job.specs.Limits.{maxDepth, diagonalsSize, maxMessage}
 use Rattle.job.specs.LimitLaws.{power-most}
 use Rattle.undo.specs.Steps.{longestBase}
 
-pub start-is : (d low k n i : ℕ) {f p q : ℕ} → k ≡ 2 ^ low → f ≡ finalAt d → p ≡ 2 ^ d → q ≡ 2 ^ (i + 1) → f + k + n * (p - q) ≡ blockAt n low d i
-start-is d low k n i {p = p} {q = q} w e ep eq =
-    ap₂ (λ f l. f + l + n * (p - q)) e w ∙ ap (λ a. finalAt d + 2 ^ low + n * a) (ap₂ (λ a b. a - b) ep (eq ∙ ap (λ j. 2 ^ j) (add-one i)))
+-- a block of the opening and those below it are the last words of it
+rest-is : (c low d i : ℕ) → i < d → blockAt c low d i + diagonalsSize c (i + 1) ≡ openingSize c low d
+rest-is c low d i h =
+    let same : diagonalsSize c (i + 1) ≡ diagonalsSize c (suc i) = ap (diagonalsSize c) (add-one i) in
+    let p : 2 ^ suc i ≤ 2 ^ d = pow-mono h in
+    let q : (2 ^ d - 2 ^ suc i) + (2 ^ suc i - 1) ≡ 2 ^ d - 1 = omega (arith, pow-pos (suc i)) in
+    ap (λ n. blockAt c low d i + n) same
+    ∙ add-assoc (finalAt d + 2 ^ low) (c * (2 ^ d - 2 ^ suc i)) (c * (2 ^ suc i - 1))
+    ∙ ap (λ n. finalAt d + 2 ^ low + n) (sym (mul-add c (2 ^ d - 2 ^ suc i) (2 ^ suc i - 1)) ∙ ap (λ n. c * n) q)
+
+pub start-is : (c low d i : ℕ) {p n : ℕ} → i < d → p + diagonalsSize c (i + 1) ≡ n → n ≡ openingSize c low d → p ≡ blockAt c low d i
+start-is c low d i h e l = omega (arith, rest-is c low d i h)
+
+pub rest-within : (c low d i : ℕ) {n : ℕ} → i < d → n ≡ openingSize c low d → diagonalsSize c (i + 1) ≤ n
+rest-within c low d i h l = omega (arith, rest-is c low d i h)
 
 -- the longest block, and less than it
 pub product-most : (n a : ℕ) → n ≤ longestBase → a ≤ maxMessage → n * a ≤ longestBase * maxMessage

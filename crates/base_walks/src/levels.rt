@@ -1,10 +1,9 @@
-// Sizes with base blocks of n words, where blocks stand in an opening whose v has k words, and where a query goes on: as in `job`, `layout` and
-// `walks`.
+// Sizes with base blocks of n words, where v and the blocks stand in an opening, and where a query goes on.
 ghost use mathlib.Core.Path.{_≡_};
 ghost use Prim.Native.Nat.{_+_, _<_, _≤_};
 ghost use lib.ListN.{length, take, drop};
 ghost use Rattle.basefold.specs.Checks.{next as nextPlace};
-ghost use Rattle.basefold.specs.Layout.{finalAt, blockAt, blockOf, openingSize};
+ghost use Rattle.basefold.specs.Layout.{finalAt, blockOf, openingSize};
 ghost use Rattle.job.specs.Limits.{maxDepth, blockSize, diagonalsSize};
 ghost use Rattle.undo.specs.Steps.{longestBase};
 ghost use Rattle.base_walks.specs.Steps.{RowSizes};
@@ -25,13 +24,12 @@ pub fn diagonals_len(level: u32, n: usize) -> usize
     n * (job::message_len(level) - 1)
 }
 
-// Where the block of a level below the top one begins: 3 depth + k + n (2^depth - 2^(level + 1)).
-pub fn block_at(depth: u32, low: u32, k: usize, n: usize, level: u32) -> usize
-    requires { ⌜ (RowSizes depth low k n) × (level < depth) ⌝ }
-    ensures { λ p. ⌜ p ≡ blockAt n low depth level ⌝ }
+// Where the block of a level below the top one begins, in an opening of `len` words: it and the blocks below it are its last n (2^(level + 1) - 1).
+pub fn block_at(n: usize, level: u32, len: usize) -> usize
+    requires { ⌜ (level < maxDepth) × (n ≤ longestBase) × (diagonalsSize n (level + 1) ≤ len) ⌝ }
+    ensures { λ p. ⌜ p + diagonalsSize n (level + 1) ≡ len ⌝ }
 {
-    let above = job::message_len(depth) - job::message_len(level + 1);
-    layout::final_at(depth) + k + n * above
+    len - diagonals_len(level + 1, n)
 }
 
 // v, as a part of the opening.
@@ -60,7 +58,7 @@ pub fn level_block<'a>(
     if level == depth {
         return block;
     }
-    let start = block_at(depth, low, k, n, level);
+    let start = block_at(n, level, opening.len());
     let end = start + block_len(level, n);
     &opening[start..end]
 }

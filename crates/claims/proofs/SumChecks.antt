@@ -1,5 +1,5 @@
 -- The sums, from the top one down. Assumes nothing.
-use mathlib.Core.Path.{_≡_, refl, sym, ap, _∙_, subst}
+use mathlib.Core.Path.{_≡_, refl, sym, ap, _∙_}
 use mathlib.Core.Bool.{true, false}
 use mathlib.Core.List.{List}
 use Prim.Native.Nat.{ℕ, zero, suc, _+_, _-_, _≤_, _<_}
@@ -13,14 +13,13 @@ use Rattle.algebra.specs.Words.{Words, PrimeField}
 use Rattle.algebra.specs.WordLists.{elements, length-elements, getD-elements}
 use Rattle.multilinear.specs.Quadratic.{through, through-steps}
 use Rattle.basefold.specs.Layout.{roundAt, sent}
-use Rattle.basefold.specs.Checks.{sumCheck, firstFailure, sumsFrom, sums, same}
+use Rattle.basefold.specs.Checks.{sumCheck, firstFailure, sumsFrom, same}
 use Rattle.basefold.specs.CheckLaws.{first-holds, first-fails}
 use Rattle.residue.specs.Elements.{Low, elem, half}
 use Rattle.residue.specs.ResidueLaws.{is-low, stands}
 use Rattle.residue.specs.declared.Residue.{Residue}
 use Rattle.verdict.specs.Equality.{its-word, same-words}
-use Rattle.claims.specs.Steps.{RoundSent, ChallengeSent, SumsInput, SumsResult, ClaimsInput, LowClaim, afterSums}
-use Rattle.claims.specs.declared.sums.Claimed.{Claimed}
+use Rattle.claims.specs.Steps.{RoundSent, ChallengeSent, SumsInput, SumsResult}
 use Rattle.claims.specs.declared.sums.Claimed.the-variants.{Last, Fails}
 
 module _ (𝓕 : PrimeField) where
@@ -126,17 +125,3 @@ module _ (𝓕 : PrimeField) where
         → next .0 ≡ word (through K (half 𝓕) (sent F O d i 0) (sent F O d i 1) (sent F O d i 2) (el (getD r (i - 1) 0))) → SumsLeft d y r o (i - 1) next
     sums-turn zero claim next 𝓢 h e en = absurd (omega arith)
     sums-turn (suc i) claim next 𝓢 h e en = let one : suc i - 1 ≡ i = omega arith in rw one (turn i claim 𝓢 next e (rw one at en))
-
-    -- the first failure of the sums and the final check, by what the loop of the sums answers
-    pub result-is : (s : Claimed) → SumsResult 𝓕 d y r o s → (z : List Element) → afterSums 𝓕 0 O z ρ s ≡ firstFailure (sums F 0 O z ρ (elem 𝓕 y))
-    result-is s 𝓢 z = sym (ap (λ n. firstFailure (sumsFrom F 0 O z ρ n (elem 𝓕 y))) deep ∙ 𝓢 .first 0 z)
-
-  -- the final check is lent what the sums are, with the claim that they leave
-  pub last-input : (d : ℕ) (y : Residue) (z r o : List ℕ) (s : Claimed) (w : Residue) → ClaimsInput 𝓕 d y z r o → s ≡ Last w → LowClaim 𝓕 s → ClaimsInput 𝓕 d w z r o
-  last-input d y z r o s w 𝓒 e l =
-      let 𝓘 = 𝓒 .sums in
-      record {
-        sums = record { claim = subst (LowClaim 𝓕) e l; challenges = 𝓘 .challenges; low = 𝓘 .low; long = 𝓘 .long; opening = 𝓘 .opening };
-        point = 𝓒 .point;
-        low = 𝓒 .low;
-      }

@@ -1,3 +1,3 @@
--- The sums and the final check.
+-- The sums.
 --     Steps    what their steps are lent, and what the sums leave
 pub mod Steps

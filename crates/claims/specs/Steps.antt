@@ -1,4 +1,4 @@
--- What the steps of the sums and the final check are lent, and what the sums leave. Definitions only. Assumes nothing.
+-- What the steps of the sums are lent, and what the sums leave. Definitions only. Assumes nothing.
 use mathlib.Core.Path.{_≡_}
 use mathlib.Core.List.{List}
 use mathlib.Core.Option.{Option, some}
@@ -44,12 +44,6 @@ module _ (𝓕 : PrimeField) where
     pub low : LowWords P r
     pub long : finalAt d < length o
     pub opening : LowWords P o
-
-  -- what the sums are lent, and a point
-  pub record ClaimsInput (d : ℕ) (y : Residue) (z r o : List ℕ) : Type 0 where
-    pub sums : SumsInput d y r o
-    pub point : length z ≡ d
-    pub low : LowWords P z
 
   -- the first failure by the answer of the sums: sum i failed, or the final check decides
   abbrev pub afterSums : (low : ℕ) (o z r : List Element) → Claimed → Option Check

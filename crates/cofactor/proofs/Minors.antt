@@ -14,7 +14,8 @@ use Rattle.residue.specs.ResidueLaws.{stands}
 use Rattle.determinant.specs.Determinant.{without, minor, sign, det}
 use Rattle.determinant.specs.Sizes.{det₃, det-one, det-three, plus, minus}
 use Rattle.cofactor.specs.declared.three.Triple.{Triple}
-use Rattle.cofactor.specs.Rows.{Size, one, two, four, firstColumns}
+use Rattle.job.specs.Sizes.{Size, one, two, four}
+use Rattle.cofactor.specs.Rows.{firstColumns}
 use Rattle.cofactor.specs.RowLaws.{table, first-columns, row-within}
 use Rattle.cofactor.specs.Cofactors.{skip, minorAt, cofactorAt, PlaceLent, RowOf, threeRows}
 

@@ -12,23 +12,14 @@ use Rattle.algebra.specs.Lists.{row, length-row, row-ext, row-getD, map-row}
 use Rattle.algebra.specs.Matrix.{Wide}
 use Rattle.algebra.specs.Words.{Words, PrimeField}
 use Rattle.algebra.specs.WordLists.{Low, elements, length-elements, getD-elements}
+use Rattle.job.specs.Sizes.{Size}
 use Rattle.determinant.specs.Inverse.{Square}
 use Rattle.determinant.specs.Places.{wide-row}
-use Rattle.cofactor.specs.Rows.{Size, one, two, four, rows, firstColumns, Lent}
+use Rattle.cofactor.specs.Rows.{rows, firstColumns, Lent}
 
 -- the matrix of k rows and columns with f i j in row i and column j
 abbrev pub table : {E : Type 0} → ℕ → (ℕ → ℕ → E) → List (List E)
 table k f = row k (λ i. row k (f i))
-
-pub size-least : {k : ℕ} → Size k → 0 < k
-size-least one = omega arith
-size-least two = omega arith
-size-least four = omega arith
-
-pub size-most : {k : ℕ} → Size k → k ≤ 4
-size-most one = omega arith
-size-most two = omega arith
-size-most four = omega arith
 
 -- row i ends within k rows
 pub row-within : (k n i : ℕ) → i < k → i * n + n ≤ k * n

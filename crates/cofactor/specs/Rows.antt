@@ -8,12 +8,7 @@ use Rattle.algebra.specs.Field.{Field}
 use Rattle.algebra.specs.Lists.{row}
 use Rattle.algebra.specs.Words.{PrimeField}
 use Rattle.algebra.specs.WordLists.{Low, elements}
-
--- how many words a base message may have
-pub data Size : ℕ → Type 0 where
-  one : Size 1
-  two : Size 2
-  four : Size 4
+use Rattle.job.specs.Sizes.{Size}
 
 module _ (𝓕 : PrimeField) where
   open PrimeField 𝓕 using (modulus as P, field as F)

@@ -1,27 +1,22 @@
 -- The loops over the places of one column. Assumes nothing.
 use mathlib.Core.Path.{_≡_, refl, sym, ap, ap₂, _∙_, subst}
 use mathlib.Core.Bool.{Bool, _&&_}
-use mathlib.Core.List.{List, _++_}
+use mathlib.Core.List.{List}
 use Prim.Native.Nat.{ℕ, _+_, _*_, _<_, _≤_}
-use native.Mathlib.Numerals.{add-one}
 use native.Mathlib.Omega.{arith}
 use lib.Dec.{eqb}
-use lib.ListN.{length, take, drop, getD, set, length-append, length-take, List·getD-append}
-use lib.Seq.{paste, paste-zero, paste-suc, length-paste}
+use lib.ListN.{length, take, getD, set}
 use Rattle.algebra.specs.Ring.{Ring}
 use Rattle.algebra.specs.Field.{Field}
 use Rattle.algebra.specs.Lists.{length-row, getD-row}
 use Rattle.algebra.specs.Tests.{all₂, all₂-turn}
 use Rattle.algebra.specs.Words.{Words, PrimeField}
-use Rattle.algebra.specs.WordLists.{Low, elements, toWords}
+use Rattle.algebra.specs.WordLists.{Low}
 use Rattle.foldable.specs.Every.{every}
 use Rattle.inversion.specs.Strides.{stride-next, stride-within}
-use Rattle.residue.specs.declared.Residue.{Residue}
-use Rattle.residue.specs.Elements.{elem}
-use Rattle.code.specs.Steps.{times, CrossInput, crossed}
-use Rattle.code.proofs.Spreads.{length-scaled, scaled-at}
+use Rattle.code.specs.Steps.{CrossInput, crossed}
 use Rattle.code.proofs.Crossing.{CrossedTo, cross-none, cross-length, left-low, right-low, cross-turn, cross-end}
-use Rattle.columns.specs.Steps.{ScaleLent, CrossLent}
+use Rattle.columns.specs.Steps.{CrossLent}
 
 pub next-place : (a i c p : ℕ) → p ≡ a + i * c → p + c ≡ a + (i + 1) * c
 next-place a i c p e = omega (arith, stride-next i c)
@@ -40,43 +35,6 @@ module _ (𝓕 : PrimeField) where
   open Field F using (ring as K)
   open Ring K using (_+_ as _⊞_, _*_ as _⊠_)
   open Words W using (el, val as word)
-
-  -- a times the first n words
-  abbrev pub multiple : ℕ → Residue → List ℕ → List ℕ
-  multiple n a w = toWords 𝓕 (times 𝓕 (elem 𝓕 a) (elements 𝓕 (take n w)))
-
-  module _ (n : ℕ) (a : Residue) (o : List ℕ) (𝓢 : ScaleLent 𝓕 n a o) where
-    front : length (take n o) ≡ n
-    front = length-take n o ∙ omega (arith, 𝓢 .room)
-
-    pub length-multiple : length (multiple n a o) ≡ n
-    length-multiple = length-scaled 𝓕 (a .0) (take n o) ∙ front
-
-    pub scale-none : o ≡ paste o n (multiple n a o) 0
-    scale-none = paste-zero o n (multiple n a o)
-
-    module _ (i : ℕ) (w : List ℕ) (p : w ≡ paste o n (multiple n a o) i) where
-      pub scale-length : i ≤ n → length w ≡ length o
-      scale-length h = ap length p ∙ length-paste o n (multiple n a o) i (omega (arith, 𝓢 .room)) (omega (arith, length-multiple))
-
-      -- what is read is as it was
-      read-is : i < n → getD w i 0 ≡ getD (take n o) i 0
-      read-is h =
-          ap (λ v. getD v i 0) p
-          ∙ List·getD-append (take n o ++ take i (multiple n a o)) (drop (n + i) o) 0 i (omega (arith, length-append (take n o) (take i (multiple n a o)), front))
-          ∙ List·getD-append (take n o) (take i (multiple n a o)) 0 i (omega (arith, front))
-
-      pub read-low : i < n → getD w i 0 < P
-      read-low h = rw (read-is h) (𝓢 .message .low i (omega (arith, front)))
-
-      pub scale-turn : i < n → (v : ℕ) → v ≡ word (elem 𝓕 a ⊠ el (getD w i 0)) → set w (n + i) v ≡ paste o n (multiple n a o) (i + 1)
-      scale-turn h v e =
-          ap₂ (λ u x. set u (n + i) x) p (e ∙ ap (λ x. word (elem 𝓕 a ⊠ el x)) (read-is h) ∙ sym (scaled-at 𝓕 (a .0) (take n o) i))
-          ∙ paste-suc o n (multiple n a o) i 0 (omega (arith, 𝓢 .room)) (omega (arith, length-multiple))
-          ∙ ap (paste o n (multiple n a o)) (sym (add-one i))
-
-      pub scale-end : i ≤ n → n ≤ i → w ≡ paste o n (multiple n a o) n
-      scale-end h k = let e : i ≡ n = omega arith in p ∙ ap (paste o n (multiple n a o)) e
 
   -- the places a, a + c, .. lie within
   module _ (n a c : ℕ) (s : List ℕ) (within : a + n * c < length s + c) where

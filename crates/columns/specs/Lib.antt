@@ -1,3 +1,3 @@
--- A block compared with a codeword, column by column.
+-- One column of a block, and the levels of the code over it.
 --     Steps    what the steps are lent
 pub mod Steps

@@ -1,32 +1,15 @@
 // Loops over the places of one column.
 ghost use mathlib.Core.Path.{_≡_};
 ghost use Prim.Native.Nat.{_*_, _<_, _≤_};
-ghost use lib.ListN.{length, take};
-ghost use lib.Seq.{paste};
-ghost use Rattle.algebra.specs.WordLists.{elements, toWords};
+ghost use lib.ListN.{length};
 ghost use Rattle.algebra.specs.Tests.{allSame};
-ghost use Rattle.code.specs.Steps.{times, crossed};
+ghost use Rattle.code.specs.Steps.{crossed};
 ghost use Rattle.foldable.specs.Every.{every};
-ghost use Rattle.residue.specs.Elements.{elem};
 ghost use Rattle.residue.specs.Chosen.{chosen};
 ghost use Rattle.undo.specs.Steps.{longestBase};
-ghost use Rattle.columns.specs.Steps.{ScaleLent, CrossLent};
+ghost use Rattle.columns.specs.Steps.{CrossLent};
 use residue::Field;
-use residue::Residue;
 use words::entry;
-
-// a times the first n words, behind them.
-pub fn scale_front(n: usize, a: Residue, w: &mut [u32], field: Field)
-    requires { ⌜ ScaleLent (chosen field) n a (now w) ⌝ }
-    ensures { λ _. ⌜ now (w .exit) ≡ paste (now (w .entry)) n (toWords (chosen field) (times (chosen field) (elem (chosen field) a) (elements (chosen field) (take n (now (w .entry)))))) n ⌝ }
-{
-    let mut i = 0;
-    while i < n {
-        let k = n + i;
-        w[k] = entry::scaled(a, w[i], field);
-        i += 1;
-    }
-}
 
 // The halves l and r of w become l + t r and l + t2 r, with the diagonals in every c-th place of t and t2 from a on.
 pub fn cross(n: usize, a: usize, c: usize, t: &[u32], t2: &[u32], w: &mut [u32], field: Field)

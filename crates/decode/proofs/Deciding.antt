@@ -1,81 +1,28 @@
--- A block is a codeword exactly where it is that of the message which its first column allows. Assumes nothing.
+-- What trying a block answered settles it. Assumes nothing.
 use mathlib.Core.Path.{_≡_, refl, sym, ap, _∙_}
-use mathlib.Core.Bool.{true, false, false≢true}
+use mathlib.Core.Bool.{Bool, true, false, not, false≢true}
 use mathlib.Core.List.{List}
 use Prim.Native.Nat.{ℕ, _*_, _^_, _≤_}
-use native.Mathlib.Nat.{one-mul, suc-mul, mul-le-mul-right}
+use native.Mathlib.Nat.{mul-le-mul-right}
 use native.Mathlib.Omega.{arith}
 use lib.ListN.{length, take}
 use Rattle.algebra.specs.Words.{PrimeField}
-use Rattle.algebra.specs.WordLists.{Low, low-words, elements, toWords, length-elements, length-words, elements-words, words-elements}
-use Rattle.algebra.specs.Tests.{allSame, same-is, is-same}
-use Rattle.foldable.specs.Code.{encode, Codeword}
-use Rattle.foldable.specs.Decode.{decodes, length-decode}
-use Rattle.foldable.specs.Encode.{length-encode}
-use Rattle.parameters.specs.Lent.{lent, codeword}
-use Rattle.undo.specs.Steps.{DecodeInput, decoded}
 use Rattle.job.specs.declared.Answer.the-variants.{Done, Refused}
 use Rattle.job.specs.declared.Refusal.the-variants.{NoCodeword}
+use Rattle.base_spread.specs.LentRows.{codewordRows}
+use Rattle.base_decode.specs.Decoding.{DecodeRows, Tried, message as tried, none as failed}
 use Rattle.decode.specs.Decoding.{Settled, message, none}
-use Rattle.decode.specs.Laws.{decoder}
-use Rattle.halves.specs.Comparing.{CompareInput}
 
 module _ (𝓕 : PrimeField) where
-  open PrimeField 𝓕 using (modulus as P, field as F)
+  module _ (d k n : ℕ) (g t t' b old : List ℕ) {r : Bool} {w : List ℕ} where
+    pub found : Tried 𝓕 d k n g t t' b r w → not r ≡ false → (out : List ℕ) → out ≡ take (k * 2 ^ d) w → Settled 𝓕 d k n g t t' b old Done out
+    found (tried a l p e) y out q = message refl (ap length q ∙ l) (rw q p) (ap (codewordRows 𝓕 d k n g t t') q ∙ e)
+    found (failed a x) y out q = absurd (false≢true (sym y ∙ ap not a))
 
-  module _ (d : ℕ) (g t t' b : List ℕ) (k : ℕ) (𝓓 : DecodeInput 𝓕 d g t t' b k) where
-    length-block : length (elements 𝓕 b) ≡ length (elements 𝓕 g) * 2 ^ d
-    length-block = length-elements 𝓕 b ∙ 𝓓 .size ∙ ap (λ n. n * 2 ^ d) (sym (length-elements 𝓕 g))
+    pub not-found : Tried 𝓕 d k n g t t' b r w → not r ≡ true → Settled 𝓕 d k n g t t' b old (Refused NoCodeword) old
+    not-found (tried a l p e) y = absurd (false≢true (sym (ap not a) ∙ y))
+    not-found (failed a x) y = none refl x refl
 
-    pub length-decoded : length (decoded 𝓕 d g t t' b) ≡ 2 ^ d
-    unfolding decoded
-    length-decoded =
-        length-words 𝓕 _
-        ∙ length-decode F (lent 𝓕 g t t') 1 _ (decoder 𝓕 g t t' (𝓓 .coding .row) (omega (arith, 𝓓 .narrow)) (𝓓 .unit)) d (𝓓 .coding .legal) (elements 𝓕 b) length-block
-        ∙ one-mul (2 ^ d)
-
-    low-decoded : Low P (decoded 𝓕 d g t t' b)
-    unfolding decoded
-    low-decoded = low-words 𝓕 _
-
-    -- the message is compared by halves
-    pub by-halves : (w : List ℕ) → length w ≡ k → 4 ≤ length g → take (2 ^ d) w ≡ decoded 𝓕 d g t t' b → CompareInput 𝓕 d g t t' b w
-    by-halves w l narrow e =
-        record {
-          coding = 𝓓 .coding;
-          depth = 𝓓 .depth;
-          narrow = narrow;
-          wide = 𝓓 .wide;
-          size = 𝓓 .size;
-          block = 𝓓 .block;
-          work = l ∙ 𝓓 .work;
-          message = rw e low-decoded;
-        }
-
-    -- what it is compared with
-    abbrev pub coded : List ℕ
-    coded = codeword 𝓕 d g t t' (decoded 𝓕 d g t t' b)
-
-    length-coded : length coded ≡ length b
-    length-coded =
-        length-words 𝓕 _ ∙ length-encode F (lent 𝓕 g t t') d (𝓓 .coding .legal) _
-        ∙ ap (λ n. n * 2 ^ d) (length-elements 𝓕 g) ∙ sym (𝓓 .size)
-
-    pub found : (old out : List ℕ) → allSame coded b ≡ true → out ≡ decoded 𝓕 d g t t' b → Settled 𝓕 d g t t' b old Done out
-    found old out e q =
-        message refl (ap length q ∙ length-decoded) (rw q low-decoded)
-        (ap (codeword 𝓕 d g t t') q ∙ same-is coded b length-coded e)
-
-    codeword-same : Codeword F (lent 𝓕 g t t') d (elements 𝓕 b) → coded ≡ b
-    unfolding decoded
-    codeword-same w =
-        ap (λ m. toWords 𝓕 (encode F (lent 𝓕 g t t') d m)) (elements-words 𝓕 _)
-        ∙ ap (toWords 𝓕) (decodes F (lent 𝓕 g t t') 1 _ (decoder 𝓕 g t t' (𝓓 .coding .row) (omega (arith, 𝓓 .narrow)) (𝓓 .unit)) d (𝓓 .coding .legal) (elements 𝓕 b) length-block .0 w)
-        ∙ words-elements 𝓕 b (𝓓 .block)
-
-    pub not-found : (old : List ℕ) → allSame coded b ≡ false → Settled 𝓕 d g t t' b old (Refused NoCodeword) old
-    not-found old e = none refl (λ w. false≢true (sym e ∙ ap (λ v. allSame v b) (codeword-same w) ∙ is-same b b refl)) refl
-
-    -- the message is taken from the front of the work buffer
-    pub front-within : (w : List ℕ) → length w ≡ k → 2 ^ d ≤ length w
-    front-within w l = omega (arith, 𝓓 .work, mul-le-mul-right (2 ^ d) (𝓓 .narrow), one-mul (2 ^ d), suc-mul 1 (2 ^ d))
+  -- the message is taken from the front of the work buffer
+  pub front-within : (d k n : ℕ) (g m t t' b : List ℕ) (size : ℕ) → DecodeRows 𝓕 d k n g m t t' b size → k * 2 ^ d ≤ size
+  front-within d k n g m t t' b size 𝓓 = omega (arith, 𝓓 .input .work, mul-le-mul-right (2 ^ d) (𝓓 .coding .lent .few))

@@ -1,3 +1,3 @@
 -- Lemmas of decoding.
---     Deciding     a block is a codeword exactly where it is that of the message which its first column allows
+--     Deciding     found, not-found: what trying a block answered settles it
 pub mod Deciding

@@ -1,7 +1,5 @@
 -- Decoding.
 --     Decoding    the job: judgeDecoding, Settled, Decoded
---     Laws        the contract determines answer and buffers, and a message is given exactly where the block is a codeword
---     Steps       what the steps are lent, and what they leave
+--     Laws        decodes: what is known where a block may be decoded; determined, exactly, gives, eight: the contract determines answer and buffers, a message is given exactly where the block is a codeword, and 8 exactly where it is none
 pub mod Decoding
 pub mod Laws
-pub mod Steps

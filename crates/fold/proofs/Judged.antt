@@ -1,6 +1,6 @@
 -- From the job's tests to the outcome that is due, and from an outcome without refusal to what holds of the input. Assumes nothing.
 use mathlib.Core.Path.{_≡_, refl, sym, ap, ap₂, _∙_}
-use mathlib.Core.Bool.{Bool, true, false, not, _&&_}
+use mathlib.Core.Bool.{Bool, true, false, _&&_}
 use mathlib.Core.List.{List, [], _∷_}
 use Prim.Native.Nat.{ℕ, suc, _+_, _*_, _-_, _^_, _<_, _≤_}
 use native.Mathlib.Nat.{mul-one}
@@ -9,14 +9,14 @@ use lib.Dec.{leb, ltb, eqb}
 use lib.ListN.{length}
 use borrow.Author.Tests.{leb-true, eqb-true}
 use Rattle.algebra.specs.Words.{PrimeField}
-use Rattle.algebra.specs.Flags.{passes}
 use Rattle.algebra.specs.Tests.{all, and-both}
 use Rattle.algebra.specs.WordLists.{Low}
 use Rattle.foldable.specs.Encode.{double}
-use Rattle.job.specs.Limits.{maxDepth, maxRate, rateOk, blockSize}
-use Rattle.job.specs.LimitLaws.{rate-most, power-most, product-most}
-use Rattle.job.specs.Outcome.{unplaced, Outcome, refused, done, unless, _⨾_}
-use Rattle.job.specs.OutcomeLaws.{stop-within, pass, pass-demand, require-done, demand-done, demand-held, both}
+use Rattle.job.specs.Limits.{rateOk, blockSize}
+use Rattle.job.specs.Sizes.{k0Ok, depthOk, inLimits, baseSize}
+use Rattle.job.specs.SizeLaws.{within, block-most}
+use Rattle.job.specs.Outcome.{Numbers, unplaced, Outcome, refused, done, require, unless, _⨾_}
+use Rattle.job.specs.OutcomeLaws.{stop-within, pass, pass-demand, after-refused, chain, require-done, demand-done, demand-held, held, both}
 use Rattle.words.specs.Scans.{allBelow, allDiffer}
 use Rattle.words.specs.ScanLaws.{all-below, all-differ}
 use Rattle.places.specs.Inputs.{inOrder, judgeWords, noEqual, Short}
@@ -24,23 +24,18 @@ use Rattle.places.specs.FlagLaws.{short-without-row, words-flagged, equal-flagg
 use Rattle.inversion.specs.Inversion.{Diagonals}
 use Rattle.fold.specs.Job.{levelOk, foldLimits, lengthsOk, foldInputs, judgeFolding}
 
-pub level-bounds : (level : ℕ) → levelOk level ≡ true → (1 ≤ level) × (level ≤ maxDepth)
+-- a level that can be folded is a depth of at least 1
+pub level-depth : (k level : ℕ) → levelOk k level ≡ true → (1 ≤ level) × (depthOk k level ≡ true)
 unfolding levelOk
-level-bounds level e =
-    let b = and-both (leb 1 level) (leb level maxDepth) e in
-    (leb-true 1 level (b .0), leb-true level maxDepth (b .1))
+level-depth k level e =
+    let b = and-both (leb 1 level) (depthOk k level) e in
+    (leb-true 1 level (b .0), b .1)
 
-pub record Bounds (level rate : ℕ) : Type 0 where
-  pub least : 1 ≤ level
-  pub most : level ≤ maxDepth
-  pub rate-most : rate ≤ maxRate
-
--- where a test of level and rate passes
-pub bounds : (level rate : ℕ) {r : Bool} → r ≡ foldLimits level rate → not r ≡ false → Bounds level rate
-bounds level rate e h =
-    let b = and-both (levelOk level) (rateOk rate) (passes e h) in
-    let l = level-bounds level (b .0) in
-    record { least = l .0; most = l .1; rate-most = rate-most rate (b .1) }
+pub legal : (level rate k : ℕ) → foldLimits level rate k ≡ true → (1 ≤ level) × (inLimits level rate k ≡ true)
+legal level rate k e =
+    let b = and-both (levelOk k level) (rateOk rate && k0Ok k) e in
+    let l = level-depth k level (b .0) in
+    (l .0, ap₂ _&&_ (l .1) (b .1))
 
 pub record Lengths (n m t t2 block out : ℕ) : Type 0 where
   pub first : t ≡ n
@@ -48,43 +43,67 @@ pub record Lengths (n m t t2 block out : ℕ) : Type 0 where
   pub whole : block ≡ m
   pub result : out ≡ n
 
-pub lengths : (level rate t t2 block out : ℕ) → lengthsOk level rate t t2 block out ≡ true
-    → Lengths (blockSize rate (level - 1)) (blockSize rate level) t t2 block out
+-- with base blocks of s words
+pub lengths : (level s t t2 block out : ℕ) → lengthsOk level s t t2 block out ≡ true
+    → Lengths (blockSize s (level - 1)) (blockSize s level) t t2 block out
 unfolding lengthsOk
-lengths level rate t t2 block out e =
-    let n = blockSize rate (level - 1) in
+lengths level s t t2 block out e =
+    let n = blockSize s (level - 1) in
     let a = and-both (eqb t n) _ e in
     let b = and-both (eqb t2 n) _ (a .1) in
-    let c = and-both (eqb block (blockSize rate level)) _ (b .1) in
+    let c = and-both (eqb block (blockSize s level)) _ (b .1) in
     record { first = eqb-true t n (a .0); second = eqb-true t2 n (b .0); whole = eqb-true block _ (c .0); result = eqb-true out n (c .1) }
 
 -- where the lengths are right, each word has an index
-pub short : (level rate : ℕ) (t t2 block : List ℕ) (a out : ℕ) → (foldLimits level rate && lengthsOk level rate (length t) (length t2) (length block) out) ≡ true
+pub short : (level rate k : ℕ) (t t2 block : List ℕ) (a out : ℕ)
+    → (foldLimits level rate k && lengthsOk level (baseSize rate k) (length t) (length t2) (length block) out) ≡ true
     → Short [] t t2 block [] [] (a ∷ []) []
-short level rate t t2 block a out e =
-    let i = and-both (foldLimits level rate) _ e in
-    let j = and-both (levelOk level) (rateOk rate) (i .0) in
-    let most = level-bounds level (j .0) .1 in
-    let below = product-most rate (2 ^ (level - 1)) (rate-most rate (j .1)) (power-most (level - 1) (omega (arith, most))) in
-    let whole = product-most rate (2 ^ level) (rate-most rate (j .1)) (power-most level most) in
-    let l = lengths level rate _ _ _ _ (i .1) in
+short level rate k t t2 block a out e =
+    let i = and-both (foldLimits level rate k) _ e in
+    let w = within level rate k (legal level rate k (i .0) .1) in
+    let below = block-most w (level - 1) (omega arith) in
+    let whole = block-most w level (omega arith) in
+    let l = lengths level (baseSize rate k) _ _ _ _ (i .1) in
     short-without-row t t2 block [] (a ∷ []) (omega (arith, l .first, below)) (omega (arith, l .second, below)) (omega (arith, l .whole, whole)) (omega arith) (omega arith)
 
 -- a block has twice the words of the block below it
-twice : (rate level : ℕ) → 1 ≤ level → blockSize rate level ≡ blockSize rate (level - 1) + blockSize rate (level - 1)
-twice rate level h = let up : level ≡ suc (level - 1) = omega arith in ap (λ i. rate * 2 ^ i) up ∙ double rate (level - 1)
+twice : (s level : ℕ) → 1 ≤ level → blockSize s level ≡ blockSize s (level - 1) + blockSize s (level - 1)
+twice s level h = let up : level ≡ suc (level - 1) = omega arith in ap (λ i. s * 2 ^ i) up ∙ double s (level - 1)
+
+-- where 1, 2 and 13 do not decide, the record is legal
+pub limits-passed : (level rate k : ℕ) → done tt ≡ require (levelOk k level) 1 ⨾ require (rateOk rate) 2 ⨾ require (k0Ok k) 13 → foldLimits level rate k ≡ true
+limits-passed level rate k e =
+    let a = require-done (levelOk k level) 1 (sym e) in
+    let b = require-done (rateOk rate) 2 (a .1) in
+    ap₂ _&&_ (a .0) (ap₂ _&&_ (b .0) (held (k0Ok k) 13 (b .1)))
 
 module _ (𝓕 : PrimeField) where
   open PrimeField 𝓕 using (modulus as P)
 
-  module _ (level rate : ℕ) (t t2 block : List ℕ) (a out : ℕ) where
+  module _ (level rate k : ℕ) (t t2 block : List ℕ) (a out : ℕ) where
     abbrev L : Bool
-    L = lengthsOk level rate (length t) (length t2) (length block) out
+    L = lengthsOk level (baseSize rate k) (length t) (length t2) (length block) out
 
-    pub lengths-due : levelOk level ≡ true → rateOk rate ≡ true → (foldLimits level rate && lengthsOk level rate (length t) (length t2) (length block) out) ≡ false
-        → refused (unplaced 3) ≡ judgeFolding 𝓕 level rate t t2 block a out
+    abbrev Rest : Outcome (Unit {0})
+    Rest = require L 3 ⨾ judgeWords 𝓕 (foldInputs t t2 block a) ⨾ noEqual t t2
+
+    -- 1, 2 and 13 decide
+    pub limits-due : {n : Numbers} → refused n ≡ require (levelOk k level) 1 ⨾ require (rateOk rate) 2 ⨾ require (k0Ok k) 13 → refused n ≡ judgeFolding 𝓕 level rate k t t2 block a out
     unfolding judgeFolding
-    lengths-due e f g = pass 1 e (pass 2 f (stop-within (foldLimits level rate) L _ (ap₂ _&&_ e f) g))
+    limits-due e =
+        let rest = require (rateOk rate) 2 ⨾ require (k0Ok k) 13 in
+        after-refused Rest e ∙ chain (require (levelOk k level) 1) rest Rest ∙ ap (λ o. require (levelOk k level) 1 ⨾ o) (chain (require (rateOk rate) 2) (require (k0Ok k) 13) Rest)
+
+    -- what is due after them
+    after-limits : foldLimits level rate k ≡ true → {o : Outcome (Unit {0})} → o ≡ Rest → o ≡ judgeFolding 𝓕 level rate k t t2 block a out
+    unfolding judgeFolding
+    after-limits e r =
+        let i = and-both (levelOk k level) (rateOk rate && k0Ok k) e in
+        let j = and-both (rateOk rate) (k0Ok k) (i .1) in
+        pass 1 (i .0) (pass 2 (j .0) (pass 13 (j .1) r))
+
+    pub lengths-due : foldLimits level rate k ≡ true → (foldLimits level rate k && L) ≡ false → refused (unplaced 3) ≡ judgeFolding 𝓕 level rate k t t2 block a out
+    lengths-due e g = after-limits e (stop-within (foldLimits level rate k) L _ e g)
 
     -- an input that is not lent is passed over
     lent-only : judgeWords 𝓕 (inOrder [] t t2 block [] [] (a ∷ []) []) ≡ judgeWords 𝓕 (foldInputs t t2 block a)
@@ -93,16 +112,15 @@ module _ (𝓕 : PrimeField) where
 
     -- 4 and 6 by their flags, which are only set where nothing is due
     pub places-due : (lengths low : Bool) {words apart : Bool} {o : Outcome (Unit {0})}
-        → (foldLimits level rate && lengthsOk level rate (length t) (length t2) (length block) out) ≡ true
+        → (foldLimits level rate k && L) ≡ true
         → low ≡ (lengths && (allBelow 𝓕 t && allBelow 𝓕 t2)) → apart ≡ (lengths && allDiffer t t2) → words ≡ (low && (allBelow 𝓕 block && ltb a P))
         → o ≡ unless words (judgeWords 𝓕 (inOrder [] t t2 block [] [] (a ∷ []) [])) ⨾ unless apart (noEqual t t2)
-        → o ≡ judgeFolding 𝓕 level rate t t2 block a out
-    unfolding judgeFolding all
+        → o ≡ judgeFolding 𝓕 level rate k t t2 block a out
+    unfolding all
     places-due lengths low {words} l e f g h =
-        let i = and-both (foldLimits level rate) L l in
-        let j = and-both (levelOk level) (rateOk rate) (i .0) in
-        pass 1 (j .0) (pass 2 (j .1) (pass 3 (i .1)
-        (h ∙ ap₂ (λ p q. p ⨾ q) (words-flagged 𝓕 words (inOrder [] t t2 block [] [] (a ∷ []) []) (foldInputs t t2 block a) lent-only words-pass) (equal-flagged lengths t t2 f))))
+        let i = and-both (foldLimits level rate k) L l in
+        after-limits (i .0) (pass 3 (i .1)
+        (h ∙ ap₂ (λ p q. p ⨾ q) (words-flagged 𝓕 words (inOrder [] t t2 block [] [] (a ∷ []) []) (foldInputs t t2 block a) lent-only words-pass) (equal-flagged lengths t t2 f)))
       where
         words-pass : words ≡ true → judgeWords 𝓕 (foldInputs t t2 block a) ≡ done tt
         words-pass q =
@@ -119,21 +137,22 @@ module _ (𝓕 : PrimeField) where
       pub whole : length block ≡ out + out
       pub low : Low P block
       pub challenge : a < P
-      pub size : out ≡ blockSize rate (level - 1)
+      pub size : out ≡ blockSize (baseSize rate k) (level - 1)
 
-    pub no-refusal-due : judgeFolding 𝓕 level rate t t2 block a out ≡ done tt → NoRefusalDue
+    pub no-refusal-due : judgeFolding 𝓕 level rate k t t2 block a out ≡ done tt → NoRefusalDue
     unfolding judgeFolding
     no-refusal-due e =
-        let level-passes = require-done (levelOk level) 1 e in
+        let level-passes = require-done (levelOk k level) 1 e in
         let rate-passes = require-done (rateOk rate) 2 (level-passes .1) in
-        let lengths-pass = require-done L 3 (rate-passes .1) in
+        let base-passes = require-done (k0Ok k) 13 (rate-passes .1) in
+        let lengths-pass = require-done L 3 (base-passes .1) in
         let words-pass = both (judgeWords 𝓕 (foldInputs t t2 block a)) (lengths-pass .1) in
         let first = demand-done (allBelow 𝓕 t) _ (words-pass .0) in
         let second = demand-done (allBelow 𝓕 t2) _ (first .1) in
         let third = demand-done (allBelow 𝓕 block) _ (second .1) in
         let one = demand-done (allBelow 𝓕 (a ∷ [])) _ (third .1) in
         let differ = demand-held (allDiffer t t2) _ (words-pass .1) in
-        let l = lengths level rate _ _ _ _ (lengths-pass .0) in
+        let l = lengths level (baseSize rate k) _ _ _ _ (lengths-pass .0) in
         let n = l .result in
         record {
           diagonals = record {
@@ -142,11 +161,11 @@ module _ (𝓕 : PrimeField) where
             second = omega (arith, l .second, n);
             low = all-below 𝓕 t (first .0);
             low' = all-below 𝓕 t2 (second .0);
-            differ = λ k h. all-differ t t2 differ (k * 1) (omega (arith, l .first, mul-one k)) (omega (arith, l .second, mul-one k));
+            differ = λ i h. all-differ t t2 differ (i * 1) (omega (arith, l .first, mul-one i)) (omega (arith, l .second, mul-one i));
           };
           first = l .first ∙ sym n;
           second = l .second ∙ sym n;
-          whole = l .whole ∙ twice rate level (level-bounds level (level-passes .0) .0) ∙ ap (λ m. m + m) (sym n);
+          whole = l .whole ∙ twice (baseSize rate k) level (level-depth k level (level-passes .0) .0) ∙ ap (λ m. m + m) (sym n);
           low = all-below 𝓕 block (third .0);
           challenge = all-below 𝓕 (a ∷ []) (one .0) .low 0 (omega arith);
           size = n;

@@ -6,28 +6,29 @@ use Prim.Native.Nat.{ℕ, _-_}
 use lib.Dec.{leb, eqb}
 use lib.ListN.{length}
 use Rattle.algebra.specs.Words.{PrimeField}
-use Rattle.job.specs.Limits.{maxDepth, rateOk, blockSize}
+use Rattle.job.specs.Limits.{rateOk, blockSize}
+use Rattle.job.specs.Sizes.{k0Ok, depthOk, baseSize}
 use Rattle.job.specs.Outcome.{Outcome, require, _⨾_, kept, outcome}
 use Rattle.job.specs.declared.Answer.{Answer}
 use Rattle.job.specs.declared.Input.the-variants.{T, T2, Block, R}
 use Rattle.places.specs.Inputs.{Lent, judgeWords, noEqual}
 use Rattle.lines.specs.Folds.{foldWords}
 
--- the upper level: at least 1
-unfoldable pub levelOk : ℕ → Bool
-levelOk level = leb 1 level && leb level maxDepth
+-- the upper level: at least 1, and within the limit of a depth
+unfoldable pub levelOk : ℕ → ℕ → Bool
+levelOk k level = leb 1 level && depthOk k level
 
--- level and rate as one test
-abbrev pub foldLimits : ℕ → ℕ → Bool
-foldLimits level rate = levelOk level && rateOk rate
+-- level, rate and the words of a base message, as one test
+abbrev pub foldLimits : ℕ → ℕ → ℕ → Bool
+foldLimits level rate k = levelOk k level && (rateOk rate && k0Ok k)
 
--- the numbers of words lent: n_i for T_i, for T'_i and for the result, n_(i+1) for the block
+-- the numbers of words lent, with base blocks of n words: n_i for T_i, for T'_i and for the result, n_(i+1) for the block
 unfoldable pub lengthsOk : ℕ → ℕ → ℕ → ℕ → ℕ → ℕ → Bool
-lengthsOk level rate t t2 block out =
-    eqb t (blockSize rate (level - 1))
-    && (eqb t2 (blockSize rate (level - 1))
-    && (eqb block (blockSize rate level)
-    && eqb out (blockSize rate (level - 1))))
+lengthsOk level n t t2 block out =
+    eqb t (blockSize n (level - 1))
+    && (eqb t2 (blockSize n (level - 1))
+    && (eqb block (blockSize n level)
+    && eqb out (blockSize n (level - 1))))
 
 -- what is lent, in its order: a challenge counts as r, of one word
 abbrev pub foldInputs : List ℕ → List ℕ → List ℕ → ℕ → List Lent
@@ -35,13 +36,13 @@ foldInputs t t2 block a = (T, t) ∷ (T2, t2) ∷ (Block, block) ∷ (R, a ∷ [
 
 module _ (𝓕 : PrimeField) where
   -- the outcome that is due
-  unfoldable pub judgeFolding : ℕ → ℕ → List ℕ → List ℕ → List ℕ → ℕ → ℕ → Outcome (Unit {0})
-  judgeFolding level rate t t2 block a out =
-      require (levelOk level) 1 ⨾ require (rateOk rate) 2
-      ⨾ require (lengthsOk level rate (length t) (length t2) (length block) out) 3
+  unfoldable pub judgeFolding : ℕ → ℕ → ℕ → List ℕ → List ℕ → List ℕ → ℕ → ℕ → Outcome (Unit {0})
+  judgeFolding level rate k t t2 block a out =
+      require (levelOk k level) 1 ⨾ require (rateOk rate) 2 ⨾ require (k0Ok k) 13
+      ⨾ require (lengthsOk level (baseSize rate k) (length t) (length t2) (length block) out) 3
       ⨾ judgeWords 𝓕 (foldInputs t t2 block a) ⨾ noEqual t t2
 
   -- the answer r, and the result, which held old
-  pub record Folded (level rate : ℕ) (t t2 block : List ℕ) (a : ℕ) (old : List ℕ) (r : Answer) (out : List ℕ) : Type 0 where
-    pub answer : outcome r ≡ judgeFolding level rate t t2 block a (length old)
-    pub result : out ≡ kept (judgeFolding level rate t t2 block a (length old)) old (foldWords 𝓕 (blockSize rate (level - 1)) t t2 block a)
+  pub record Folded (level rate k : ℕ) (t t2 block : List ℕ) (a : ℕ) (old : List ℕ) (r : Answer) (out : List ℕ) : Type 0 where
+    pub answer : outcome r ≡ judgeFolding level rate k t t2 block a (length old)
+    pub result : out ≡ kept (judgeFolding level rate k t t2 block a (length old)) old (foldWords 𝓕 (blockSize (baseSize rate k) (level - 1)) t t2 block a)

@@ -3,14 +3,18 @@ ghost use mathlib.Core.Path.{_≡_};
 ghost use mathlib.Core.Bool.{_&&_};
 ghost use mathlib.Core.List.{[], _∷_};
 ghost use lib.Dec.{ltb};
-ghost use Rattle.job.specs.Outcome.{outcome, unless, _⨾_};
+ghost use Rattle.job.specs.Outcome.{outcome, require, unless, _⨾_};
+ghost use Rattle.job.specs.Limits.{rateOk};
+ghost use Rattle.job.specs.Sizes.{k0Ok, baseSize};
 ghost use Rattle.residue.specs.Elements.{P};
 ghost use Rattle.residue.specs.Chosen.{chosen};
 ghost use Rattle.words.specs.Scans.{allBelow, allDiffer};
 ghost use Rattle.places.specs.Inputs.{inOrder, judgeWords, noEqual, Short};
 ghost use Rattle.fold.specs.Job.{levelOk, foldLimits, lengthsOk, judgeFolding, Folded};
 use job::Answer;
+use job::Parameters;
 use job::Refusal;
+use job::sizes;
 use places::inputs;
 use residue::Field;
 use residue::Residue;
@@ -18,39 +22,42 @@ use words::scan;
 use words::scan::PairScan;
 
 // A block of level 0 cannot be folded.
-fn level_ok(level: u32) -> bool
-    ensures { λ r. ⌜ r ≡ levelOk level ⌝ }
+fn level_ok(p: Parameters) -> bool
+    ensures { λ r. ⌜ r ≡ levelOk (p .k0) (p .depth) ⌝ }
 {
-    if level < 1 {
+    if p.depth < 1 {
         return false;
     }
-    level <= job::MAX_DEPTH
+    sizes::depth_ok(p)
 }
 
-fn limits_ok(level: u32, rate: u32) -> bool
-    ensures { λ r. ⌜ r ≡ foldLimits level rate ⌝ }
+fn limits_ok(p: Parameters) -> bool
+    ensures { λ r. ⌜ r ≡ foldLimits (p .depth) (p .rate) (p .k0) ⌝ }
 {
-    if !level_ok(level) {
+    if !level_ok(p) {
         return false;
     }
-    job::rate_ok(rate)
+    if !job::rate_ok(p.rate) {
+        return false;
+    }
+    sizes::k0_ok(p)
 }
 
-// Whether level and rate are legal and the slices have the lengths that they give.
-fn lengths_ok(level: u32, rate: u32, t: usize, t2: usize, block: usize, out: usize) -> bool
-    ensures { λ r. ⌜ r ≡ (foldLimits level rate && lengthsOk level rate t t2 block out) ⌝ }
+// Whether the record is legal and the slices have the lengths that it gives.
+fn lengths_ok(p: Parameters, t: usize, t2: usize, block: usize, out: usize) -> bool
+    ensures { λ r. ⌜ r ≡ (foldLimits (p .depth) (p .rate) (p .k0) && lengthsOk (p .depth) (baseSize (p .rate) (p .k0)) t t2 block out) ⌝ }
 {
-    if !limits_ok(level, rate) {
+    if !limits_ok(p) {
         return false;
     }
-    let n = job::block_len(level - 1, rate);
+    let n = sizes::block_len(p, p.depth - 1);
     if t != n {
         return false;
     }
     if t2 != n {
         return false;
     }
-    if block != job::block_len(level, rate) {
+    if block != sizes::block_len(p, p.depth) {
         return false;
     }
     out == n
@@ -104,10 +111,21 @@ fn judge_places(
     inputs::judge_diagonals(apart, t, t2)
 }
 
+// 1, 2 and 13, in this order.
+fn judge_limits(p: Parameters) -> Answer
+    ensures { λ a. ⌜ outcome a ≡ require (levelOk (p .k0) (p .depth)) 1 ⨾ require (rateOk (p .rate)) 2 ⨾ require (k0Ok (p .k0)) 13 ⌝ }
+{
+    let level = level_ok(p);
+    let rate = job::rate_ok(p.rate);
+    let k0 = sizes::k0_ok(p);
+    let third = job::require(k0, Refusal::BaseWords, Answer::Done);
+    let second = job::require(rate, Refusal::Rate, third);
+    job::require(level, Refusal::Depth, second)
+}
+
 // The first refusal that is due. Nothing is read where the lengths are not right.
 fn judge(
-    level: u32,
-    rate: u32,
+    p: Parameters,
     t: &[u32],
     t2: &[u32],
     block: &[u32],
@@ -115,16 +133,14 @@ fn judge(
     out: usize,
     field: Field,
 ) -> Answer
-    ensures { λ r. ⌜ outcome r ≡ judgeFolding (chosen field) level rate (now (t .entry)) (now (t2 .entry)) (now (block .entry)) challenge out ⌝ }
+    ensures { λ r. ⌜ outcome r ≡ judgeFolding (chosen field) (p .depth) (p .rate) (p .k0) (now (t .entry)) (now (t2 .entry)) (now (block .entry)) challenge out ⌝ }
 {
-    let lengths = lengths_ok(level, rate, t.len(), t2.len(), block.len(), out);
+    let lengths = lengths_ok(p, t.len(), t2.len(), block.len(), out);
     let diagonals = scan_diagonals(lengths, t, t2, field);
     let words = words_ok(diagonals.below, block, challenge, field);
-    if !level_ok(level) {
-        return Answer::Refused(Refusal::Depth);
-    }
-    if !job::rate_ok(rate) {
-        return Answer::Refused(Refusal::Rate);
+    let limits = judge_limits(p);
+    if let Answer::Refused(n) = limits {
+        return Answer::Refused(n);
     }
     if !lengths {
         return Answer::Refused(Refusal::Length);
@@ -132,10 +148,9 @@ fn judge(
     judge_places(t, t2, block, challenge, words, diagonals.apart, field)
 }
 
-// The level is the upper one: t and t2 are the diagonals of the level below it, block is a block of it, and out takes the block below.
+// The record's depth is the upper level: t and t2 are the diagonals of the level below it, block is a block of it, and out takes the block below.
 pub fn fold(
-    level: u32,
-    rate: u32,
+    p: Parameters,
     t: &[u32],
     t2: &[u32],
     block: &[u32],
@@ -143,9 +158,9 @@ pub fn fold(
     out: &mut [u32],
     field: Field,
 ) -> Answer
-    ensures { λ r. ⌜ Folded (chosen field) level rate (now (t .entry)) (now (t2 .entry)) (now (block .entry)) challenge (now (out .entry)) r (now (out .exit)) ⌝ }
+    ensures { λ r. ⌜ Folded (chosen field) (p .depth) (p .rate) (p .k0) (now (t .entry)) (now (t2 .entry)) (now (block .entry)) challenge (now (out .entry)) r (now (out .exit)) ⌝ }
 {
-    let answer = judge(level, rate, t, t2, block, challenge, out.len(), field);
+    let answer = judge(p, t, t2, block, challenge, out.len(), field);
     if let Answer::Done = answer {
         lines::fold_block(t, t2, block, Residue::new(challenge, field), out, field);
     }

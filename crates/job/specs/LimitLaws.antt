@@ -1,17 +1,13 @@
 -- What the limits say: legal sizes are within the largest ones. Assumes nothing.
 use mathlib.Core.Path.{_≡_}
 use mathlib.Core.Bool.{true}
-use Prim.Native.Nat.{ℕ, _*_, _-_, _^_, _≤_}
+use Prim.Native.Nat.{ℕ, _*_, _^_, _≤_}
 use native.Mathlib.Nat.{mul-le-mul}
-use native.Mathlib.Omega.{arith}
 use lib.Dec.{leb}
 use lib.Pow.{pow-mono}
 use borrow.Author.Tests.{leb-true}
 use Rattle.algebra.specs.Tests.{and-both}
-use Rattle.job.specs.Limits.{maxDepth, minRate, maxRate, depthOk, rateOk, diagonalsSize, maxMessage, maxBlock}
-
-pub depth-most : (d : ℕ) → depthOk d ≡ true → d ≤ maxDepth
-depth-most d e = leb-true d maxDepth e
+use Rattle.job.specs.Limits.{maxDepth, minRate, maxRate, rateOk, maxMessage, maxBlock}
 
 pub rate-least : (c : ℕ) → rateOk c ≡ true → minRate ≤ c
 unfolding rateOk
@@ -27,6 +23,3 @@ power-most d h = pow-mono h
 
 pub product-most : (c n : ℕ) → c ≤ maxRate → n ≤ maxMessage → c * n ≤ maxBlock
 product-most c n h k = mul-le-mul h k
-
-pub diagonals-most : (c d : ℕ) → c ≤ maxRate → d ≤ maxDepth → diagonalsSize c d ≤ maxBlock
-diagonals-most c d h k = product-most c (2 ^ d - 1) h (omega (arith, power-most d k))

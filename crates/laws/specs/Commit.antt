@@ -5,10 +5,10 @@ use Prim.Native.Nat.{ℕ}
 use lib.ListN.{length, replicate}
 use Rattle.algebra.specs.Words.{PrimeField}
 use Rattle.job.specs.Outcome.{done, kept, _⨾_}
-use Rattle.parameters.specs.Lent.{codeword}
-use Rattle.code.specs.Encoding.{judgeEncoding}
-use Rattle.rounds.specs.Opening.{openingWords}
-use Rattle.open.specs.Writing.{judgeWriting, valueWord}
+use Rattle.job.specs.Sizes.{baseSize}
+use Rattle.base_spread.specs.LentRows.{codewordRows}
+use Rattle.encode.specs.Encoding.{judgeEncoding}
+use Rattle.open.specs.Writing.{judgeWriting, valueWord, openingWords}
 use Rattle.verdict.specs.Verdicts.{numbers, numbersOf}
 use Rattle.queries.specs.Queries.{judgeQueries}
 use Rattle.verify.specs.Verifying.{verification}
@@ -17,22 +17,22 @@ use Rattle.verdict.specs.declared.Verdict.{Verdict}
 module _ (𝓕 : PrimeField) where
   -- opening and then verifying, with the block w: verdict v, opening o' and work s', which were o and s. The first refusal is the verdict, and else it
   -- is that on the opening as it is defined, with f(z)
-  pub record OpenVerify (d c : ℕ) (g t t' m z r us w o s : List ℕ) (v : Verdict) (o' s' : List ℕ) : Type 0 where
-    pub verdict : numbers v ≡ numbersOf (judgeWriting 𝓕 d c g t t' m z r (length o) (length s) ⨾ verification 𝓕 d c g t t' w z (valueWord 𝓕 m z) r us (openingWords 𝓕 g t t' m z r))
-    pub opening : o' ≡ kept (judgeWriting 𝓕 d c g t t' m z r (length o) (length s)) o (openingWords 𝓕 g t t' m z r)
-    pub work : s' ≡ kept (judgeWriting 𝓕 d c g t t' m z r (length o) (length s)) s (replicate (length s) 0)
+  pub record OpenVerify (d c k : ℕ) (g t t' m z r us w o s : List ℕ) (v : Verdict) (o' s' : List ℕ) : Type 0 where
+    pub verdict : numbers v ≡ numbersOf (judgeWriting 𝓕 d c k g t t' m z r (length o) (length s) ⨾ verification 𝓕 d c k g t t' w z (valueWord 𝓕 m z) r us (openingWords 𝓕 c k g t t' m z r))
+    pub opening : o' ≡ kept (judgeWriting 𝓕 d c k g t t' m z r (length o) (length s)) o (openingWords 𝓕 c k g t t' m z r)
+    pub work : s' ≡ kept (judgeWriting 𝓕 d c k g t t' m z r (length o) (length s)) s (replicate (length s) 0)
 
   -- before that, encoding: block w', which was w
-  pub record CommitOpenVerify (d c : ℕ) (g t t' m z r us w o s : List ℕ) (v : Verdict) (w' o' s' : List ℕ) : Type 0 where
+  pub record CommitOpenVerify (d c k : ℕ) (g t t' m z r us w o s : List ℕ) (v : Verdict) (w' o' s' : List ℕ) : Type 0 where
     pub verdict : numbers v
-        ≡ numbersOf (judgeEncoding 𝓕 d c g t t' m (length w) ⨾ judgeWriting 𝓕 d c g t t' m z r (length o) (length s)
-        ⨾ verification 𝓕 d c g t t' (codeword 𝓕 d g t t' m) z (valueWord 𝓕 m z) r us (openingWords 𝓕 g t t' m z r))
-    pub block : w' ≡ kept (judgeEncoding 𝓕 d c g t t' m (length w)) w (codeword 𝓕 d g t t' m)
-    pub opening : o' ≡ kept (judgeEncoding 𝓕 d c g t t' m (length w) ⨾ judgeWriting 𝓕 d c g t t' m z r (length o) (length s)) o (openingWords 𝓕 g t t' m z r)
-    pub work : s' ≡ kept (judgeEncoding 𝓕 d c g t t' m (length w) ⨾ judgeWriting 𝓕 d c g t t' m z r (length o) (length s)) s (replicate (length s) 0)
+        ≡ numbersOf (judgeEncoding 𝓕 d c k g t t' m (length w) ⨾ judgeWriting 𝓕 d c k g t t' m z r (length o) (length s)
+        ⨾ verification 𝓕 d c k g t t' (codewordRows 𝓕 d k (baseSize c k) g t t' m) z (valueWord 𝓕 m z) r us (openingWords 𝓕 c k g t t' m z r))
+    pub block : w' ≡ kept (judgeEncoding 𝓕 d c k g t t' m (length w)) w (codewordRows 𝓕 d k (baseSize c k) g t t' m)
+    pub opening : o' ≡ kept (judgeEncoding 𝓕 d c k g t t' m (length w) ⨾ judgeWriting 𝓕 d c k g t t' m z r (length o) (length s)) o (openingWords 𝓕 c k g t t' m z r)
+    pub work : s' ≡ kept (judgeEncoding 𝓕 d c k g t t' m (length w) ⨾ judgeWriting 𝓕 d c k g t t' m z r (length o) (length s)) s (replicate (length s) 0)
 
   -- no refusal is due, with a block of n words, an opening of o and a work buffer of s
-  pub record NothingRefused (d c : ℕ) (g t t' m z r us : List ℕ) (n o s : ℕ) : Type 0 where
-    pub encodes : judgeEncoding 𝓕 d c g t t' m n ≡ done tt
-    pub writes : judgeWriting 𝓕 d c g t t' m z r o s ≡ done tt
-    pub asks : judgeQueries d c us ≡ done tt
+  pub record NothingRefused (d c k : ℕ) (g t t' m z r us : List ℕ) (n o s : ℕ) : Type 0 where
+    pub encodes : judgeEncoding 𝓕 d c k g t t' m n ≡ done tt
+    pub writes : judgeWriting 𝓕 d c k g t t' m z r o s ≡ done tt
+    pub asks : judgeQueries d (baseSize c k) us ≡ done tt

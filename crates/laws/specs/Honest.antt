@@ -5,7 +5,7 @@ use mathlib.Core.Path.{_≡_, refl, sym, ap, ap₂, _∙_}
 use mathlib.Core.Bool.{true, _&&_}
 use mathlib.Core.List.{List, [], _∷_}
 use mathlib.Core.Option.{Option}
-use Prim.Native.Nat.{ℕ, _^_}
+use Prim.Native.Nat.{ℕ}
 use native.Mathlib.Omega.{arith}
 use lib.Dec.{eqb}
 use lib.ListN.{length, replicate}
@@ -21,14 +21,14 @@ use Rattle.job.specs.declared.Answer.{Answer}
 use Rattle.job.specs.Outcome.{Numbers, Outcome, refused, done, due, outcome, kept, _⨾_}
 use Rattle.job.specs.OutcomeLaws.{demand-done, same-refusal}
 use Rattle.job.specs.Limits.{blockSize}
+use Rattle.job.specs.Sizes.{baseSize, messageSize, pointSize}
 use Rattle.words.specs.Scans.{allBelow}
 use Rattle.words.specs.ScanLaws.{all-below}
-use Rattle.parameters.specs.Lent.{codeword}
-use Rattle.parameters.specs.Parameters.{rowLengths, LegalRow}
-use Rattle.parameters.specs.ParameterLaws.{limits-done, RowPassed, row-passed}
-use Rattle.code.specs.Encoding.{encodeLengths, judgeEncoding, Encoded}
-use Rattle.rounds.specs.Opening.{openingWords}
-use Rattle.open.specs.Writing.{judgeWriting, writeLengths, inputLengths, bufferLengths, valueWord, writtenOutcome as wrote, Wrote}
+use Rattle.base_parameters.specs.Parameters.{rowLengths, LegalRows}
+use Rattle.base_parameters.specs.ParameterLaws.{RowsPassed, rows-passed, legal-passed}
+use Rattle.base_spread.specs.LentRows.{codewordRows}
+use Rattle.encode.specs.Encoding.{encodeLengths, judgeEncoding, Encoded}
+use Rattle.open.specs.Writing.{judgeWriting, writeLengths, inputLengths, bufferLengths, valueWord, openingWords, writtenOutcome as wrote, Wrote}
 use Rattle.open.specs.declared.Written.{Written}
 use Rattle.open.specs.declared.Written.the-variants.{Value, Refused as NotWritten}
 use Rattle.verdict.specs.Verdicts.{numbers, numbersOf}
@@ -51,75 +51,75 @@ module _ (𝓕 : PrimeField) where
   open PrimeField 𝓕 using (modulus as P)
 
   -- what a function that matches on the writer's answer leaves
-  module _ {d c : ℕ} {g t t' m z r us w o s o' s' : List ℕ} {a : Written} (p : Wrote 𝓕 d c g t t' m z r o s a o' s') where
-    pub opened : {y : ℕ} {v : Verdict} → a ≡ Value y → numbers v ≡ numbersOf (verification 𝓕 d c g t t' w z y r us o') → OpenVerify 𝓕 d c g t t' m z r us w o s v o' s'
+  module _ {d c k : ℕ} {g t t' m z r us w o s o' s' : List ℕ} {a : Written} (p : Wrote 𝓕 d c k g t t' m z r o s a o' s') where
+    pub opened : {y : ℕ} {v : Verdict} → a ≡ Value y → numbers v ≡ numbersOf (verification 𝓕 d c k g t t' w z y r us o') → OpenVerify 𝓕 d c k g t t' m z r us w o s v o' s'
     opened e h =
         record {
-          verdict = h ∙ after-value (judgeWriting 𝓕 d c g t t' m z r (length o) (length s)) (valueWord 𝓕 m z) (openingWords 𝓕 g t t' m z r) (λ y b. verification 𝓕 d c g t t' w z y r us b) o (ap wrote (sym e) ∙ p .answer) (p .result);
+          verdict = h ∙ after-value (judgeWriting 𝓕 d c k g t t' m z r (length o) (length s)) (valueWord 𝓕 m z) (openingWords 𝓕 c k g t t' m z r) (λ y b. verification 𝓕 d c k g t t' w z y r us b) o (ap wrote (sym e) ∙ p .answer) (p .result);
           opening = p .result;
           work = p .work;
         }
 
-    pub not-opened : {n : Refusal} {v : Verdict} → a ≡ NotWritten n → numbers v ≡ due n → OpenVerify 𝓕 d c g t t' m z r us w o s v o' s'
-    not-opened e h = record { verdict = h ∙ after-refusal (judgeWriting 𝓕 d c g t t' m z r (length o) (length s)) (valueWord 𝓕 m z) _ (ap wrote (sym e) ∙ p .answer); opening = p .result; work = p .work }
+    pub not-opened : {n : Refusal} {v : Verdict} → a ≡ NotWritten n → numbers v ≡ due n → OpenVerify 𝓕 d c k g t t' m z r us w o s v o' s'
+    not-opened e h = record { verdict = h ∙ after-refusal (judgeWriting 𝓕 d c k g t t' m z r (length o) (length s)) (valueWord 𝓕 m z) _ (ap wrote (sym e) ∙ p .answer); opening = p .result; work = p .work }
 
   -- by the answer of encoding
-  module _ {d c : ℕ} {g t t' m z r us w o s w' : List ℕ} {a : Answer} (p : Encoded 𝓕 d c g t t' m w a w') where
-    pub committed : {v : Verdict} {o' s' : List ℕ} → a ≡ Done → OpenVerify 𝓕 d c g t t' m z r us w' o s v o' s' → CommitOpenVerify 𝓕 d c g t t' m z r us w o s v w' o' s'
+  module _ {d c k : ℕ} {g t t' m z r us w o s w' : List ℕ} {a : Answer} (p : Encoded 𝓕 d c k g t t' m w a w') where
+    pub committed : {v : Verdict} {o' s' : List ℕ} → a ≡ Done → OpenVerify 𝓕 d c k g t t' m z r us w' o s v o' s' → CommitOpenVerify 𝓕 d c k g t t' m z r us w o s v w' o' s'
     committed e h =
-        let k = judgeWriting 𝓕 d c g t t' m z r (length o) (length s) in
-        let honestly : List ℕ → Outcome (Option Check) = λ b. verification 𝓕 d c g t t' b z (valueWord 𝓕 m z) r us (openingWords 𝓕 g t t' m z r) in
-        let f : done tt ≡ judgeEncoding 𝓕 d c g t t' m (length w) = ap outcome (sym e) ∙ p .answer in
-        let same : w' ≡ codeword 𝓕 d g t t' m = p .result ∙ sym (ap (λ x. kept x w (codeword 𝓕 d g t t' m)) f) in
+        let u = judgeWriting 𝓕 d c k g t t' m z r (length o) (length s) in
+        let honestly : List ℕ → Outcome (Option Check) = λ b. verification 𝓕 d c k g t t' b z (valueWord 𝓕 m z) r us (openingWords 𝓕 c k g t t' m z r) in
+        let f : done tt ≡ judgeEncoding 𝓕 d c k g t t' m (length w) = ap outcome (sym e) ∙ p .answer in
+        let same : w' ≡ codewordRows 𝓕 d k (baseSize c k) g t t' m = p .result ∙ sym (ap (λ x. kept x w (codewordRows 𝓕 d k (baseSize c k) g t t' m)) f) in
         record {
-          verdict = h .verdict ∙ ap (λ b. numbersOf (k ⨾ honestly b)) same ∙ ap (λ x. numbersOf (x ⨾ k ⨾ honestly (codeword 𝓕 d g t t' m))) f;
+          verdict = h .verdict ∙ ap (λ b. numbersOf (u ⨾ honestly b)) same ∙ ap (λ x. numbersOf (x ⨾ u ⨾ honestly (codewordRows 𝓕 d k (baseSize c k) g t t' m))) f;
           block = p .result;
-          opening = h .opening ∙ ap (λ x. kept (x ⨾ k) o (openingWords 𝓕 g t t' m z r)) f;
-          work = h .work ∙ ap (λ x. kept (x ⨾ k) s (replicate (length s) 0)) f;
+          opening = h .opening ∙ ap (λ x. kept (x ⨾ u) o (openingWords 𝓕 c k g t t' m z r)) f;
+          work = h .work ∙ ap (λ x. kept (x ⨾ u) s (replicate (length s) 0)) f;
         }
 
-    pub not-committed : {n : Refusal} {v : Verdict} → a ≡ Refused n → numbers v ≡ due n → CommitOpenVerify 𝓕 d c g t t' m z r us w o s v w' o s
+    pub not-committed : {n : Refusal} {v : Verdict} → a ≡ Refused n → numbers v ≡ due n → CommitOpenVerify 𝓕 d c k g t t' m z r us w o s v w' o s
     not-committed {n} e h =
-        let k = judgeWriting 𝓕 d c g t t' m z r (length o) (length s) in
-        let honestly : List ℕ → Outcome (Option Check) = λ b. verification 𝓕 d c g t t' b z (valueWord 𝓕 m z) r us (openingWords 𝓕 g t t' m z r) in
-        let f : refused (due n) ≡ judgeEncoding 𝓕 d c g t t' m (length w) = ap outcome (sym e) ∙ p .answer in
+        let u = judgeWriting 𝓕 d c k g t t' m z r (length o) (length s) in
+        let honestly : List ℕ → Outcome (Option Check) = λ b. verification 𝓕 d c k g t t' b z (valueWord 𝓕 m z) r us (openingWords 𝓕 c k g t t' m z r) in
+        let f : refused (due n) ≡ judgeEncoding 𝓕 d c k g t t' m (length w) = ap outcome (sym e) ∙ p .answer in
         record {
-          verdict = h ∙ ap (λ x. numbersOf (x ⨾ k ⨾ honestly (codeword 𝓕 d g t t' m))) f;
+          verdict = h ∙ ap (λ x. numbersOf (x ⨾ u ⨾ honestly (codewordRows 𝓕 d k (baseSize c k) g t t' m))) f;
           block = p .result;
-          opening = ap (λ x. kept (x ⨾ k) o (openingWords 𝓕 g t t' m z r)) f;
-          work = ap (λ x. kept (x ⨾ k) s (replicate (length s) 0)) f;
+          opening = ap (λ x. kept (x ⨾ u) o (openingWords 𝓕 c k g t t' m z r)) f;
+          work = ap (λ x. kept (x ⨾ u) s (replicate (length s) 0)) f;
         }
 
-  module _ {d c : ℕ} {g t t' m z r us : List ℕ} {n o s : ℕ} (𝓘 : NothingRefused 𝓕 d c g t t' m z r us n o s) where
-    passed : RowPassed 𝓕 d c g t t' (encodeLengths d c (length g) (length t) (length t') (length m) n) ((Block, m) ∷ [])
+  module _ {d c k : ℕ} {g t t' m z r us : List ℕ} {n o s : ℕ} (𝓘 : NothingRefused 𝓕 d c k g t t' m z r us n o s) where
+    passed : RowsPassed 𝓕 d c k g t t' (encodeLengths d c k (length g) (length t) (length t') (length m) n) ((Block, m) ∷ [])
     unfolding judgeEncoding
-    passed = row-passed 𝓕 d c g t t' (encodeLengths d c (length g) (length t) (length t') (length m) n) ((Block, m) ∷ []) (𝓘 .encodes)
+    passed = rows-passed 𝓕 d c k g t t' (encodeLengths d c k (length g) (length t) (length t') (length m) n) ((Block, m) ∷ []) (𝓘 .encodes)
 
-    sizes : (rowLengths d c (length g) (length t) (length t') ≡ true) × (length m ≡ 2 ^ d)
+    sizes : (rowLengths d c k (length g) (length t) (length t') ≡ true) × (length m ≡ messageSize d k)
     unfolding encodeLengths
     sizes =
-        let l = and-both (rowLengths d c (length g) (length t) (length t')) (eqb (length m) (2 ^ d) && eqb n (blockSize c d)) (passed .lengths) in
-        (l .0, eqb-true _ _ (and-both (eqb (length m) (2 ^ d)) (eqb n (blockSize c d)) (l .1) .0))
+        let l = and-both (rowLengths d c k (length g) (length t) (length t')) (eqb (length m) (messageSize d k) && eqb n (blockSize (baseSize c k) d)) (passed .lengths) in
+        (l .0, eqb-true _ _ (and-both (eqb (length m) (messageSize d k)) (eqb n (blockSize (baseSize c k) d)) (l .1) .0))
 
-    lent-row : LegalRow 𝓕 d c g t t'
-    lent-row = record { within = sym (limits-done d c (passed .depth) (passed .rate)); lengths = sizes .0; words = passed .words; legal = passed .row }
+    lent-rows : LegalRows 𝓕 d c k g t t'
+    lent-rows = legal-passed 𝓕 passed (sizes .0)
 
-    asked : (length z ≡ d) × (length r ≡ d) × Low P z × Low P r
+    asked : (length z ≡ pointSize d k) × (length r ≡ d) × Low P z × Low P r
     unfolding judgeWriting writeLengths inputLengths
     asked =
-        let p = row-passed 𝓕 d c g t t' (writeLengths d c (length g) (length t) (length t') (length m) (length z) (length r) o s) ((Block, m) ∷ (Z, z) ∷ (R, r) ∷ []) (𝓘 .writes) in
-        let i = and-both (inputLengths d (length m) (length z) (length r)) (bufferLengths d c o s) (and-both (rowLengths d c (length g) (length t) (length t')) _ (p .lengths) .1) in
-        let zr = and-both (eqb (length z) d) (eqb (length r) d) (and-both (eqb (length m) (2 ^ d)) _ (i .0) .1) in
+        let p = rows-passed 𝓕 d c k g t t' (writeLengths d c k (length g) (length t) (length t') (length m) (length z) (length r) o s) ((Block, m) ∷ (Z, z) ∷ (R, r) ∷ []) (𝓘 .writes) in
+        let i = and-both (inputLengths d k (length m) (length z) (length r)) (bufferLengths d c k o s) (and-both (rowLengths d c k (length g) (length t) (length t')) _ (p .lengths) .1) in
+        let zr = and-both (eqb (length z) (pointSize d k)) (eqb (length r) d) (and-both (eqb (length m) (messageSize d k)) _ (i .0) .1) in
         let w = demand-done (allBelow 𝓕 z) _ (demand-done (allBelow 𝓕 m) _ (p .others) .1) in
         (eqb-true _ _ (zr .0), eqb-true _ _ (zr .1), all-below 𝓕 z (w .0), all-below 𝓕 r (demand-done (allBelow 𝓕 r) _ (w .1) .0))
 
-    honest : numbersOf (verification 𝓕 d c g t t' (codeword 𝓕 d g t t' m) z (valueWord 𝓕 m z) r us (openingWords 𝓕 g t t' m z r)) ≡ (0, 0, 0)
-    honest = opening-accepted 𝓕 d c g t t' lent-row m z r us (sizes .1) (asked .0) (asked .1) (asked .2) (asked .3) (𝓘 .asks) (valueWord 𝓕 m z) refl
+    honest : numbersOf (verification 𝓕 d c k g t t' (codewordRows 𝓕 d k (baseSize c k) g t t' m) z (valueWord 𝓕 m z) r us (openingWords 𝓕 c k g t t' m z r)) ≡ (0, 0, 0)
+    honest = opening-accepted 𝓕 d c k g t t' lent-rows m z r us (sizes .1) (asked .0) (asked .1) (asked .2) (asked .3) (𝓘 .asks) (valueWord 𝓕 m z) refl
 
   -- wherever no refusal is due, the verdict is 0
-  pub commit-accepted : {d c : ℕ} {g t t' m z r us w o s : List ℕ} {v : Verdict} {w' o' s' : List ℕ} → CommitOpenVerify 𝓕 d c g t t' m z r us w o s v w' o' s'
-      → NothingRefused 𝓕 d c g t t' m z r us (length w) (length o) (length s) → numbers v ≡ (0, 0, 0)
-  commit-accepted {d} {c} {g} {t} {t'} {m} {z} {r} {us} p f =
+  pub commit-accepted : {d c k : ℕ} {g t t' m z r us w o s : List ℕ} {v : Verdict} {w' o' s' : List ℕ} → CommitOpenVerify 𝓕 d c k g t t' m z r us w o s v w' o' s'
+      → NothingRefused 𝓕 d c k g t t' m z r us (length w) (length o) (length s) → numbers v ≡ (0, 0, 0)
+  commit-accepted {d} {c} {k} {g} {t} {t'} {m} {z} {r} {us} p f =
       p .verdict
-      ∙ ap₂ (λ a b. numbersOf (a ⨾ b ⨾ verification 𝓕 d c g t t' (codeword 𝓕 d g t t' m) z (valueWord 𝓕 m z) r us (openingWords 𝓕 g t t' m z r))) (f .encodes) (f .writes)
+      ∙ ap₂ (λ a b. numbersOf (a ⨾ b ⨾ verification 𝓕 d c k g t t' (codewordRows 𝓕 d k (baseSize c k) g t t' m) z (valueWord 𝓕 m z) r us (openingWords 𝓕 c k g t t' m z r))) (f .encodes) (f .writes)
       ∙ honest f

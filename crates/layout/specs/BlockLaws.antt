@@ -1,7 +1,7 @@
 -- The block of a level: where it lies, its length and its words; and v. With any number of low variables. Assumes nothing.
 use mathlib.Core.Path.{_≡_, refl, sym, ap, ap₂, _∙_}
 use mathlib.Core.Bool.{Bool, true, false, cond}
-use mathlib.Core.List.{List, [], _∷_}
+use mathlib.Core.List.{List}
 use Prim.Native.Nat.{ℕ, _+_, _*_, _-_, _^_, _≤_, _<_}
 use native.Mathlib.Omega.{arith}
 use lib.Dec.{ltb}
@@ -13,7 +13,7 @@ use Rattle.algebra.specs.Words.{Words, PrimeField}
 use Rattle.algebra.specs.WordLists.{Low, low-take, low-drop, elements, elements-take, elements-drop, length-elements, getD-elements}
 use Rattle.job.specs.Limits.{blockSize}
 use Rattle.basefold.specs.Layout.{finalAt, blockAt, blockOf, openingSize, carried}
-use Rattle.basefold.specs.Plain.{carried-plain, elements-block}
+use Rattle.basefold.specs.Plain.{elements-block}
 use Rattle.layout.specs.LayoutLaws.{block-within}
 
 -- of the top level, and of a lower one
@@ -71,10 +71,3 @@ module _ (𝓕 : PrimeField) where
   pub carried-words : (low d : ℕ) (r o : List ℕ) → length r ≡ d → carried F low (elements 𝓕 o) (length (elements 𝓕 r)) ≡ elements 𝓕 (take (2 ^ low) (drop (finalAt d) o))
   carried-words low d r o e =
       ap (λ n. carried F low (elements 𝓕 o) n) (length-elements 𝓕 r ∙ e) ∙ ap (take (2 ^ low)) (sym (elements-drop 𝓕 (finalAt d) o)) ∙ sym (elements-take 𝓕 (2 ^ low) (drop (finalAt d) o))
-
-  -- without low variables, one word
-  pub carried-is : (d : ℕ) (r o : List ℕ) → length r ≡ d → finalAt d < length o → carried F 0 (elements 𝓕 o) (length (elements 𝓕 r)) ≡ el (getD o (finalAt d) 0) ∷ []
-  carried-is d r o e h =
-      let l = length-elements 𝓕 o in
-      ap (λ n. carried F 0 (elements 𝓕 o) n) (length-elements 𝓕 r ∙ e)
-      ∙ carried-plain F (elements 𝓕 o) d (omega arith) ∙ ap (λ a. a ∷ []) (getD-elements 𝓕 o (finalAt d))

@@ -29,4 +29,12 @@ fn main() {
     numbers_filled::verdicts();
     numbers_filled::filled();
     numbers_filled::not_filled();
+    numbers_base::encodings();
+    numbers_base::decodings();
+    numbers_base::foldings();
+    numbers_base::written();
+    numbers_base::verdicts();
+    numbers_base::four();
+    numbers_base::sizes();
+    numbers_base::not_filled();
 }

@@ -1,12 +1,22 @@
 // Encoding, folding and decoding at rate 2 with the diagonals [2, 3] and their opposites.
+use job::Parameters;
 use residue::Field;
+
+// Base messages of one word.
+fn one_word(depth: u32, rate: u32) -> Parameters {
+    Parameters {
+        depth: depth,
+        rate: rate,
+        k0: 1,
+    }
+}
 
 fn encode(text: &[u8], depth: u32, rate: u32, g: &[u32], t2: &[u32], block: &mut [u32]) {
     let t = [2u32, 3];
     let m = [5u32, 7];
     print::answer(
         text,
-        code::encode::encode(depth, rate, g, &t, t2, &m, block, Field::First),
+        encode::encode(one_word(depth, rate), g, &t, t2, &m, block, Field::First),
     );
 }
 
@@ -15,7 +25,7 @@ fn fold(text: &[u8], level: u32, block: &[u32], folded: &mut [u32]) {
     let t2 = [2147483645u32, 2147483644];
     print::answer(
         text,
-        fold::fold(level, 2, &t, &t2, block, 4, folded, Field::First),
+        fold::fold(one_word(level, 2), &t, &t2, block, 4, folded, Field::First),
     );
 }
 
@@ -45,7 +55,7 @@ fn decode(text: &[u8], last: u32, m: &mut [u32], work: &mut [u32]) {
     let block = [19u32, 26, 2147483638, last];
     print::answer(
         text,
-        decode::decode::decode(1, 2, &g, &t, &t2, &block, m, work, Field::First),
+        decode::decode::decode(one_word(1, 2), &g, &t, &t2, &block, m, work, Field::First),
     );
     print::words(b"message", m);
 }

@@ -1,7 +1,17 @@
 // Openings over the second field, and what the rule fills.
+use job::Parameters;
 use tvarchula::coding;
 use tvarchula::filling;
 use tvarchula::opening;
+
+// Base messages of one word.
+fn one_word(depth: u32, rate: u32) -> Parameters {
+    Parameters {
+        depth: depth,
+        rate: rate,
+        k0: 1,
+    }
+}
 
 fn verify(text: &[u8], field: bool, y: u32) {
     let g = [1u32, 1];
@@ -16,8 +26,7 @@ fn verify(text: &[u8], field: bool, y: u32) {
         text,
         opening::tv_verify_opening(
             field,
-            1,
-            2,
+            one_word(1, 2),
             &g,
             &t,
             &t2,
@@ -44,7 +53,7 @@ pub fn filled() {
     let mut t2 = [0u32; 6];
     numbers_second::answer(
         b"fill depth 2, rate 2:",
-        filling::tv_fill_roots(2, 2, &mut g, &mut t, &mut t2),
+        filling::tv_fill_roots(one_word(2, 2), &mut g, &mut t, &mut t2),
     );
     print::words(b"g", &g);
     print::words(b"T", &t);
@@ -53,14 +62,17 @@ pub fn filled() {
     let mut block = [0u32; 8];
     numbers_second::answer(
         b"encode 1 2 3 4:",
-        coding::tv_encode(true, 2, 2, &g, &t, &t2, &message, &mut block),
+        coding::tv_encode(true, one_word(2, 2), &g, &t, &t2, &message, &mut block),
     );
     print::words(b"codeword", &block);
 }
 
 fn fill(text: &[u8], depth: u32, rate: u32, g: &mut [u32], t: &mut [u32]) {
     let mut t2 = [7u32; 3];
-    numbers_second::answer(text, filling::tv_fill_roots(depth, rate, g, t, &mut t2));
+    numbers_second::answer(
+        text,
+        filling::tv_fill_roots(one_word(depth, rate), g, t, &mut t2),
+    );
     print::words(b"g", g);
 }
 

@@ -2,11 +2,22 @@
 use clearance::reading;
 use clearance::reading::Reading;
 use job::Answer;
+use job::Parameters;
 use job::Refusal;
+use job::sizes;
 use polynomial::Evaluation;
 use residue::Field;
 use table::to_coefficients;
 use table::to_table;
+
+// Base messages of one word.
+fn one_word(depth: u32) -> Parameters {
+    Parameters {
+        depth: depth,
+        rate: 2,
+        k0: 1,
+    }
+}
 
 fn meaning(r: Reading) {
     match r {
@@ -38,7 +49,7 @@ pub fn readings() {
 fn transform(text: &[u8], t: &[i32], m: &mut [u32]) {
     print::answer(
         text,
-        to_coefficients::table_to_coefficients(t, m, Field::First),
+        to_coefficients::table_to_coefficients(one_word(0), t, m, Field::First),
     );
 }
 
@@ -88,7 +99,7 @@ fn coefficients(text: &[u8], t: &[i32], m: &mut [u32]) {
 fn back(m: &[u32], t: &mut [i32], work: &mut [u32]) {
     print::answer(
         b"and back:",
-        to_table::coefficients_to_table(m, t, work, Field::First),
+        to_table::coefficients_to_table(one_word(0), m, t, work, Field::First),
     );
 }
 
@@ -119,7 +130,7 @@ fn evaluate(text: &[u8], depth: u32, z: u32) {
     print::label(text);
     let m = [5u32, 7];
     let point = [z];
-    value(polynomial::evaluate(depth, &m, &point, Field::First));
+    value(polynomial::evaluate(one_word(depth), &m, &point, Field::First));
 }
 
 pub fn evaluations() {
@@ -134,7 +145,11 @@ pub fn evaluations() {
 fn depth(text: &[u8], depth: u32) {
     print::answer(
         text,
-        job::require(job::depth_ok(depth), Refusal::Depth, Answer::Done),
+        job::require(
+            sizes::depth_ok(one_word(depth)),
+            Refusal::Depth,
+            Answer::Done,
+        ),
     );
 }
 

@@ -1,4 +1,5 @@
 // Openings, with the places that a failure names.
+use job::Parameters;
 use reply::answer::Reply;
 use tvarchula::opening;
 
@@ -95,10 +96,14 @@ fn write(opened: &mut [u32], y: &mut u32) -> u32 {
     let z = [5u32, 6];
     let r = [7u32, 8];
     let mut work = [0u32; 8];
+    let p = Parameters {
+        depth: 2,
+        rate: 2,
+        k0: 1,
+    };
     opening::tv_write_opening(
         false,
-        2,
-        2,
+        p,
         &g,
         &t,
         &t2,

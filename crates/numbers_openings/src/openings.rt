@@ -5,21 +5,26 @@ ghost use Rattle.algebra.specs.Words.{𝔽₁};
 ghost use Rattle.verdict.specs.Verdicts.{numbersOf};
 ghost use Rattle.verify.specs.Verifying.{verification};
 ghost use Rattle.reply.specs.Replies.{triple};
+use job::Parameters;
 use reply::answer::Reply;
 use tvarchula::opening;
 
 // A message of one word, 9.
 pub fn depth_0(y: u32, queries: &[u32]) -> Reply
-    ensures { λ a. ⌜ a ≡ triple (numbersOf (verification 𝔽₁ 0 2 (1 ∷ 1 ∷ []) [] [] (9 ∷ 9 ∷ []) [] y [] (now (queries .entry)) (9 ∷ []))) ⌝ }
+    ensures { λ a. ⌜ a ≡ triple (numbersOf (verification 𝔽₁ 0 2 1 (1 ∷ 1 ∷ []) [] [] (9 ∷ 9 ∷ []) [] y [] (now (queries .entry)) (9 ∷ []))) ⌝ }
 {
     let g = [1u32, 1];
     let none = [0u32; 0];
     let block = [9u32, 9];
     let opened = [9u32];
+    let p = Parameters {
+        depth: 0,
+        rate: 2,
+        k0: 1,
+    };
     opening::tv_verify_opening(
         false,
-        0,
-        2,
+        p,
         &g,
         &none,
         &none,
@@ -34,7 +39,7 @@ pub fn depth_0(y: u32, queries: &[u32]) -> Reply
 
 // The opening of 5 + 7 X_0 at z.
 pub fn depth_1(z: u32, y: u32, r: u32, queries: &[u32], opened: &[u32]) -> Reply
-    ensures { λ a. ⌜ a ≡ triple (numbersOf (verification 𝔽₁ 1 2 (1 ∷ 1 ∷ []) (2 ∷ 3 ∷ []) (2147483645 ∷ 2147483644 ∷ []) (19 ∷ 26 ∷ 2147483638 ∷ 2147483631 ∷ []) (z ∷ []) y (r ∷ []) (now (queries .entry)) (now (opened .entry)))) ⌝ }
+    ensures { λ a. ⌜ a ≡ triple (numbersOf (verification 𝔽₁ 1 2 1 (1 ∷ 1 ∷ []) (2 ∷ 3 ∷ []) (2147483645 ∷ 2147483644 ∷ []) (19 ∷ 26 ∷ 2147483638 ∷ 2147483631 ∷ []) (z ∷ []) y (r ∷ []) (now (queries .entry)) (now (opened .entry)))) ⌝ }
 {
     let g = [1u32, 1];
     let t = [2u32, 3];
@@ -42,25 +47,17 @@ pub fn depth_1(z: u32, y: u32, r: u32, queries: &[u32], opened: &[u32]) -> Reply
     let block = [19u32, 26, 2147483638, 2147483631];
     let zs = [z];
     let rs = [r];
-    opening::tv_verify_opening(
-        false,
-        1,
-        2,
-        &g,
-        &t,
-        &t2,
-        &block,
-        &zs,
-        y,
-        &rs,
-        queries,
-        opened,
-    )
+    let p = Parameters {
+        depth: 1,
+        rate: 2,
+        k0: 1,
+    };
+    opening::tv_verify_opening(false, p, &g, &t, &t2, &block, &zs, y, &rs, queries, opened)
 }
 
 // The opening of 1 + 2 X_0 + 3 X_1 + 4 X_0 X_1 at (5, 6) with one query.
 pub fn depth_2(query: u32, opened: &[u32]) -> Reply
-    ensures { λ a. ⌜ a ≡ triple (numbersOf (verification 𝔽₁ 2 2 (1 ∷ 1 ∷ []) (2 ∷ 3 ∷ 4 ∷ 5 ∷ 6 ∷ 7 ∷ []) (3 ∷ 4 ∷ 5 ∷ 6 ∷ 7 ∷ 8 ∷ []) (49 ∷ 82 ∷ 97 ∷ 142 ∷ 60 ∷ 97 ∷ 112 ∷ 161 ∷ []) (5 ∷ 6 ∷ []) 149 (7 ∷ 8 ∷ []) (query ∷ []) (now (opened .entry)))) ⌝ }
+    ensures { λ a. ⌜ a ≡ triple (numbersOf (verification 𝔽₁ 2 2 1 (1 ∷ 1 ∷ []) (2 ∷ 3 ∷ 4 ∷ 5 ∷ 6 ∷ 7 ∷ []) (3 ∷ 4 ∷ 5 ∷ 6 ∷ 7 ∷ 8 ∷ []) (49 ∷ 82 ∷ 97 ∷ 142 ∷ 60 ∷ 97 ∷ 112 ∷ 161 ∷ []) (5 ∷ 6 ∷ []) 149 (7 ∷ 8 ∷ []) (query ∷ []) (now (opened .entry)))) ⌝ }
 {
     let g = [1u32, 1];
     let t = [2u32, 3, 4, 5, 6, 7];
@@ -69,18 +66,10 @@ pub fn depth_2(query: u32, opened: &[u32]) -> Reply
     let z = [5u32, 6];
     let r = [7u32, 8];
     let queries = [query];
-    opening::tv_verify_opening(
-        false,
-        2,
-        2,
-        &g,
-        &t,
-        &t2,
-        &block,
-        &z,
-        149,
-        &r,
-        &queries,
-        opened,
-    )
+    let p = Parameters {
+        depth: 2,
+        rate: 2,
+        k0: 1,
+    };
+    opening::tv_verify_opening(false, p, &g, &t, &t2, &block, &z, 149, &r, &queries, opened)
 }

@@ -1,13 +1,19 @@
 // Where the refusals 4, 5 and 6 find the first fault: index and input with 4, the index with 5 and 6.
+use job::Parameters;
 use numbers_openings::openings;
 use tvarchula::coding;
 
 // A message of four words at rate 2.
 fn encode(text: &[u8], g: &[u32], t: &[u32], t2: &[u32], message: &[u32]) {
     let mut block = [0u32; 8];
+    let p = Parameters {
+        depth: 2,
+        rate: 2,
+        k0: 1,
+    };
     numbers_openings::verdict(
         text,
-        coding::tv_encode(false, 2, 2, g, t, t2, message, &mut block),
+        coding::tv_encode(false, p, g, t, t2, message, &mut block),
     );
 }
 
@@ -45,9 +51,14 @@ fn fold(text: &[u8], challenge: u32, block: &[u32]) {
     let t = [2u32, 3];
     let t2 = [2147483645u32, 3];
     let mut folded = [0u32; 2];
+    let p = Parameters {
+        depth: 1,
+        rate: 2,
+        k0: 1,
+    };
     numbers_openings::verdict(
         text,
-        coding::tv_fold(false, 1, 2, &t, &t2, block, challenge, &mut folded),
+        coding::tv_fold(false, p, &t, &t2, block, challenge, &mut folded),
     );
 }
 

@@ -1,7 +1,17 @@
 // The same kind of numbers over the second field, p = 2013265921.
+use job::Parameters;
 use reply::answer::Reply;
 use tvarchula::coding;
 use tvarchula::ground;
+
+// Base messages of one word.
+fn one_word(depth: u32) -> Parameters {
+    Parameters {
+        depth: depth,
+        rate: 2,
+        k0: 1,
+    }
+}
 
 pub fn answer(text: &[u8], a: Reply) {
     print::label(text);
@@ -28,7 +38,10 @@ pub fn readings() {
 fn range(text: &[u8], x: i32) {
     let t = [x];
     let mut m = [0u32; 1];
-    answer(text, ground::tv_table_to_coefficients(true, &t, &mut m));
+    answer(
+        text,
+        ground::tv_table_to_coefficients(true, one_word(0), &t, &mut m),
+    );
 }
 
 pub fn ranges() {
@@ -42,7 +55,7 @@ pub fn transforms() {
     let mut m = [0u32; 4];
     answer(
         b"table -1 1 4 -10:",
-        ground::tv_table_to_coefficients(true, &t, &mut m),
+        ground::tv_table_to_coefficients(true, one_word(0), &t, &mut m),
     );
     print::words(b"coefficients", &m);
 }
@@ -51,7 +64,10 @@ fn evaluate(text: &[u8], z: u32) {
     let m = [5u32, 7];
     let point = [z];
     let mut value = 0u32;
-    answer(text, ground::tv_evaluate(true, 1, &m, &point, &mut value));
+    answer(
+        text,
+        ground::tv_evaluate(true, one_word(1), &m, &point, &mut value),
+    );
     print::line(b"value", value);
 }
 
@@ -69,13 +85,13 @@ pub fn encodings() {
     let mut block = [0u32; 4];
     answer(
         b"encode 5 7:",
-        coding::tv_encode(true, 1, 2, &g, &t, &t2, &message, &mut block),
+        coding::tv_encode(true, one_word(1), &g, &t, &t2, &message, &mut block),
     );
     print::words(b"codeword", &block);
     let mut folded = [0u32; 2];
     answer(
         b"fold by 4:",
-        coding::tv_fold(true, 1, 2, &t, &t2, &block, 4, &mut folded),
+        coding::tv_fold(true, one_word(1), &t, &t2, &block, 4, &mut folded),
     );
     print::words(b"folded", &folded);
 }
@@ -89,7 +105,16 @@ fn decode(text: &[u8], last: u32) {
     let mut work = [9u32; 4];
     answer(
         text,
-        coding::tv_decode(true, 1, 2, &g, &t, &t2, &block, &mut message, &mut work),
+        coding::tv_decode(
+            true,
+            one_word(1),
+            &g,
+            &t,
+            &t2,
+            &block,
+            &mut message,
+            &mut work,
+        ),
     );
     print::words(b"message", &message);
 }

@@ -10,7 +10,7 @@ use Rattle.algebra.specs.Words.{Words, PrimeField}
 use Rattle.algebra.specs.WordLists.{Low, elements}
 use Rattle.job.specs.declared.Input.the-variants.{Block, Z}
 use Rattle.job.specs.Outcome.{Outcome, refused, done, require, _⨾_, due}
-use Rattle.job.specs.Limits.{depthOk}
+use Rattle.job.specs.Sizes.{k0Ok, depthOk, messageSize, pointSize}
 use Rattle.multilinear.specs.Polynomial.{poly}
 use Rattle.places.specs.Inputs.{Lent, judgeWords}
 use Rattle.polynomial.specs.declared.Evaluation.{Evaluation}
@@ -22,8 +22,8 @@ evaluationOutcome (Value v) = done v
 evaluationOutcome (Refused r) = refused (due r)
 
 -- of the lengths of message and point
-unfoldable pub evaluateLengths : ℕ → ℕ → ℕ → Bool
-evaluateLengths d m z = eqb m (2 ^ d) && eqb z d
+unfoldable pub evaluateLengths : ℕ → ℕ → ℕ → ℕ → Bool
+evaluateLengths d k m z = eqb m (messageSize d k) && eqb z (pointSize d k)
 
 -- what is lent, in its order: a message counts as the block
 abbrev pub evaluateInputs : List ℕ → List ℕ → List Lent
@@ -34,12 +34,13 @@ module _ (𝓕 : PrimeField) where
   open Field F using (ring as K)
   open Words W using (val as word)
 
-  unfoldable pub judgeEvaluating : ℕ → List ℕ → List ℕ → Outcome (Unit {0})
-  judgeEvaluating d m z = require (depthOk d) 1 ⨾ require (evaluateLengths d (length m) (length z)) 3 ⨾ judgeWords 𝓕 (evaluateInputs m z)
+  unfoldable pub judgeEvaluating : ℕ → ℕ → List ℕ → List ℕ → Outcome (Unit {0})
+  judgeEvaluating d k m z =
+      require (depthOk k d) 1 ⨾ require (k0Ok k) 13 ⨾ require (evaluateLengths d k (length m) (length z)) 3 ⨾ judgeWords 𝓕 (evaluateInputs m z)
 
   -- the polynomial's value at the point
-  abbrev pub evaluation : ℕ → List ℕ → List ℕ → Outcome ℕ
-  evaluation d m z = judgeEvaluating d m z ⨾ done (word (poly K (elements 𝓕 m) (elements 𝓕 z)))
+  abbrev pub evaluation : ℕ → ℕ → List ℕ → List ℕ → Outcome ℕ
+  evaluation d k m z = judgeEvaluating d k m z ⨾ done (word (poly K (elements 𝓕 m) (elements 𝓕 z)))
 
   -- what the work is lent: a word for each set of variables
   pub record EvaluateInput (m z : List ℕ) : Type 0 where

@@ -12,11 +12,11 @@ use Rattle.queries.specs.Distinct.{distinct}
 abbrev pub maxQueries : ℕ
 maxQueries = 256
 
--- at depth 0 no query; above, from 1 to the most, each a place of the block below the top one
+-- at depth 0 no query; above, from 1 to the most, each a place of the block below the top one, with base blocks of n words
 unfoldable pub queriesOk : ℕ → ℕ → List ℕ → Bool
-queriesOk zero c us = eqb (length us) 0
-queriesOk (suc i) c us = leb 1 (length us) && (leb (length us) maxQueries && allUnder (blockSize c i) us)
+queriesOk zero n us = eqb (length us) 0
+queriesOk (suc i) n us = leb 1 (length us) && (leb (length us) maxQueries && allUnder (blockSize n i) us)
 
 -- the refusals, in their order: wherever a place too large stands, and whatever stands twice, 7 comes first
 unfoldable pub judgeQueries : ℕ → ℕ → List ℕ → Outcome (Unit {0})
-judgeQueries d c us = require (queriesOk d c us) 7 ⨾ require (distinct us) 11
+judgeQueries d n us = require (queriesOk d n us) 7 ⨾ require (distinct us) 11

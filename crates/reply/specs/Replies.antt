@@ -10,7 +10,7 @@ use Rattle.job.specs.declared.Answer.{Answer}
 use Rattle.residue.specs.Chosen.{chosen}
 use Rattle.residue.specs.declared.Field.{Field as Choice}
 use Rattle.residue.specs.declared.Field.the-variants.{First, Second}
-use Rattle.code.specs.Encoding.{Encoded}
+use Rattle.encode.specs.Encoding.{Encoded}
 use Rattle.decode.specs.Decoding.{Decoded}
 use Rattle.fold.specs.Job.{Folded}
 use Rattle.open.specs.Writing.{writtenOutcome as wrote, Wrote}
@@ -59,45 +59,45 @@ pub data Single (answer : Outcome ℕ) (r : Reply) (old value : ℕ) : Type 0 wh
 
 -- a call of a job: the reply tells some answer, and with that answer the job's own contract holds
 module _ (𝓕 : PrimeField) where
-  pub record ToCoefficientsCall (t : List ℤ) (old new : List ℕ) (r : Reply) : Type 0 where
+  pub record ToCoefficientsCall (k : ℕ) (t : List ℤ) (old new : List ℕ) (r : Reply) : Type 0 where
     pub job : Answer
     pub answer : r ≡ reply (outcome job)
-    pub result : ToCoefficients 𝓕 t old new job
+    pub result : ToCoefficients 𝓕 k t old new job
 
-  pub record ToTableCall (m : List ℕ) (old new : List ℤ) (work left : List ℕ) (r : Reply) : Type 0 where
+  pub record ToTableCall (k : ℕ) (m : List ℕ) (old new : List ℤ) (work left : List ℕ) (r : Reply) : Type 0 where
     pub job : Answer
     pub answer : r ≡ reply (outcome job)
-    pub result : ToTable 𝓕 m old new work left job
+    pub result : ToTable 𝓕 k m old new work left job
 
-  pub record EncodeCall (d c : ℕ) (g t t' m old : List ℕ) (r : Reply) (out : List ℕ) : Type 0 where
+  pub record EncodeCall (d c k : ℕ) (g t t' m old : List ℕ) (r : Reply) (out : List ℕ) : Type 0 where
     pub job : Answer
     pub answer : r ≡ reply (outcome job)
-    pub result : Encoded 𝓕 d c g t t' m old job out
+    pub result : Encoded 𝓕 d c k g t t' m old job out
 
-  pub record DecodeCall (d c : ℕ) (g t t' w old space : List ℕ) (r : Reply) (out work : List ℕ) : Type 0 where
+  pub record DecodeCall (d c k : ℕ) (g t t' w old space : List ℕ) (r : Reply) (out work : List ℕ) : Type 0 where
     pub job : Answer
     pub answer : r ≡ reply (outcome job)
-    pub result : Decoded 𝓕 d c g t t' w old space job out work
+    pub result : Decoded 𝓕 d c k g t t' w old space job out work
 
-  pub record FoldCall (level c : ℕ) (t t' w : List ℕ) (a : ℕ) (old : List ℕ) (r : Reply) (out : List ℕ) : Type 0 where
+  pub record FoldCall (level c k : ℕ) (t t' w : List ℕ) (a : ℕ) (old : List ℕ) (r : Reply) (out : List ℕ) : Type 0 where
     pub job : Answer
     pub answer : r ≡ reply (outcome job)
-    pub result : Folded 𝓕 level c t t' w a old job out
+    pub result : Folded 𝓕 level c k t t' w a old job out
 
-  pub record EvaluateCall (d : ℕ) (m z : List ℕ) (old : ℕ) (r : Reply) (value : ℕ) : Type 0 where
+  pub record EvaluateCall (d k : ℕ) (m z : List ℕ) (old : ℕ) (r : Reply) (value : ℕ) : Type 0 where
     pub job : Evaluation
     pub answer : r ≡ reply (evaluated job)
-    pub result : evaluated job ≡ evaluation 𝓕 d m z
+    pub result : evaluated job ≡ evaluation 𝓕 d k m z
     pub single : value ≡ given (evaluated job) old
 
-  pub record WriteCall (d c : ℕ) (g t t' m z r old space : List ℕ) (value : ℕ) (a : Reply) (out work : List ℕ) (value' : ℕ) : Type 0 where
+  pub record WriteCall (d c k : ℕ) (g t t' m z r old space : List ℕ) (value : ℕ) (a : Reply) (out work : List ℕ) (value' : ℕ) : Type 0 where
     pub job : Written
     pub answer : a ≡ reply (wrote job)
-    pub result : Wrote 𝓕 d c g t t' m z r old space job out work
+    pub result : Wrote 𝓕 d c k g t t' m z r old space job out work
     pub single : value' ≡ given (wrote job) value
 
 -- filling names no field: it is of the second one
-pub record FillCall (d c : ℕ) (g t t' : List ℕ) (r : Reply) (g₁ t₁ t₁' : List ℕ) : Type 0 where
+pub record FillCall (d c k : ℕ) (g t t' : List ℕ) (r : Reply) (g₁ t₁ t₁' : List ℕ) : Type 0 where
   pub job : Answer
   pub answer : r ≡ reply (outcome job)
-  pub result : RootsFilled d c g t t' job g₁ t₁ t₁'
+  pub result : RootsFilled d c k g t t' job g₁ t₁ t₁'

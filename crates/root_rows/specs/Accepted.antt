@@ -3,6 +3,7 @@ use mathlib.Core.Path.{_≡_, refl, sym, ap, ap₂, _∙_}
 use mathlib.Core.Bool.{true, not, _&&_}
 use mathlib.Core.List.{List, [], _∷_, _++_, map}
 use Prim.Native.Nat.{ℕ, zero, suc, _+_, _^_, _<_, _≤_}
+use native.Mathlib.Nat.{mul-one, one-mul}
 use native.Mathlib.Omega.{arith}
 use borrow.Author.Tests.{eq-eqb, ne-eqb}
 use lib.Dec.{eqb}
@@ -16,12 +17,16 @@ use Rattle.algebra.specs.WordLists.{Low, low-none, low-cons, toWords}
 use Rattle.roots.specs.RootCode.{powers}
 use Rattle.roots.specs.ReedSolomon.{legal-roots, table-roots}
 use Rattle.roots.specs.SecondField.{root₂, table₂}
-use Rattle.job.specs.Outcome.{done}
-use Rattle.job.specs.Limits.{maxDepth, maxRate, blockSize}
+use Rattle.job.specs.Outcome.{done, _⨾_}
+use Rattle.job.specs.Limits.{maxDepth, maxRate, blockSize, diagonalsSize}
+use Rattle.job.specs.Sizes.{baseSize}
 use Rattle.residue.specs.Elements.{P, negative}
 use Rattle.words.specs.Scans.{noneZero, allDiffer}
 use Rattle.words.specs.ScanLaws.{below-all}
-use Rattle.parameters.specs.Parameters.{rowLengths, rowWords, legalRow}
+use Rattle.places.specs.Inputs.{noZero, noEqual}
+use Rattle.parameters.specs.Parameters.{rowWords}
+use Rattle.base_parameters.specs.Parameters.{rowLengths, legalRows}
+use Rattle.base_parameters.specs.ParameterLaws.{base-of-one}
 use Rattle.root_rows.specs.Rule.{onesWords, levelWords, firstWords, negativeWords, ByRule}
 use Rattle.root_rows.specs.RuleLaws.{log-most, length-first, low-first, length-negatives}
 
@@ -68,14 +73,15 @@ module _ (d e : ℕ) (depth : d ≤ maxDepth) (most : 2 ^ e ≤ maxRate) where
   differ-first (suc k) h = differ-append (firstWords e k) (levelWords e k) ∙ ap₂ _&&_ (differ-first k (omega arith)) (differ-level k (omega arith))
 
   module _ (g t t' : List ℕ) (𝓡 : ByRule d e g t t') where
-    pub lengths-rule : rowLengths d (2 ^ e) (length g) (length t) (length t') ≡ true
+    pub lengths-rule : rowLengths d (2 ^ e) 1 (length g) (length t) (length t') ≡ true
     unfolding rowLengths
     lengths-rule =
-        let first : length t ≡ _ = ap length (𝓡 .first) ∙ length-first e d in
+        let base : 2 ^ e ≡ baseSize (2 ^ e) 1 = sym (mul-one (2 ^ e)) in
+        let long = length-first e d ∙ ap (λ n. diagonalsSize n d) base in
         rw (
-          eq-eqb _ _ (ap length (𝓡 .row) ∙ length-replicate (2 ^ e) 1),
-          eq-eqb _ _ first,
-          eq-eqb _ _ (ap length (𝓡 .second) ∙ length-negatives (firstWords e d) ∙ length-first e d),
+          eq-eqb _ _ (ap length (𝓡 .row) ∙ length-replicate (2 ^ e) 1 ∙ base ∙ sym (one-mul (baseSize (2 ^ e) 1))),
+          eq-eqb _ _ (ap length (𝓡 .first) ∙ long),
+          eq-eqb _ _ (ap length (𝓡 .second) ∙ length-negatives (firstWords e d) ∙ long),
         )
 
     pub words-rule : rowWords 𝔽₂ g t t' ≡ true
@@ -87,5 +93,8 @@ module _ (d e : ℕ) (depth : d ≤ maxDepth) (most : 2 ^ e ≤ maxRate) where
           below-all 𝔽₂ t' (rw (𝓡 .second) (low-negatives (firstWords e d))),
         )
 
-    pub legal-filled : legalRow g t t' ≡ done tt
-    legal-filled = rw (𝓡 .row, 𝓡 .first, 𝓡 .second, no-zero (2 ^ e), differ-first d (omega arith))
+    pub legal-filled : legalRows 𝔽₂ 1 (baseSize (2 ^ e) 1) g t t' ≡ done tt
+    legal-filled = ap (λ o. o ⨾ noEqual t t') (base-of-one 𝔽₂ 1 (baseSize (2 ^ e) 1) g refl) ∙ five-six
+      where
+        five-six : noZero g ⨾ noEqual t t' ≡ done tt
+        five-six = rw (𝓡 .row, 𝓡 .first, 𝓡 .second, no-zero (2 ^ e), differ-first d (omega arith))

@@ -7,7 +7,9 @@ use lib.Dec.{eqb}
 use lib.ListN.{length}
 use Rattle.job.specs.declared.Answer.{Answer}
 use Rattle.job.specs.Outcome.{Outcome, outcome, require, _⨾_, kept}
-use Rattle.parameters.specs.Parameters.{limits, rowLengths}
+use Rattle.job.specs.Limits.{rateOk}
+use Rattle.job.specs.Sizes.{depthOk}
+use Rattle.base_parameters.specs.Parameters.{rowLengths}
 use Rattle.root_rows.specs.Rule.{onesWords, firstWords, negativeWords}
 
 -- c is a power of two
@@ -28,13 +30,14 @@ exponent c = exponentTo c c
 abbrev pub isTwoPower : ℕ → Bool
 isTwoPower c = eqb c (2 ^ exponent c)
 
--- the outcome at depth d and rate c, for slices of g, t and t' words
-abbrev pub judgeFilling : (d c g t t' : ℕ) → Outcome (Unit {0})
-judgeFilling d c g t t' = limits d c ⨾ require (rowLengths d c g t t') 3 ⨾ require (isTwoPower c) 12
+-- the outcome at depth d, rate c and k words a base message, of which this rule has one, for slices of g, t and t' words
+abbrev pub judgeFilling : (d c k g t t' : ℕ) → Outcome (Unit {0})
+judgeFilling d c k g t t' =
+    require (depthOk 1 d) 1 ⨾ require (rateOk c) 2 ⨾ require (eqb k 1) 13 ⨾ require (rowLengths d c 1 g t t') 3 ⨾ require (isTwoPower c) 12
 
 -- lent g, t and t', answered r, and left g₁, t₁ and t₁': refused as above, and all three as they were; or as the rule says
-pub record RootsFilled (d c : ℕ) (g t t' : List ℕ) (r : Answer) (g₁ t₁ t₁' : List ℕ) : Type 0 where
-  pub answer : outcome r ≡ judgeFilling d c (length g) (length t) (length t')
-  pub row : g₁ ≡ kept (judgeFilling d c (length g) (length t) (length t')) g (onesWords c)
-  pub first : t₁ ≡ kept (judgeFilling d c (length g) (length t) (length t')) t (firstWords (exponent c) d)
-  pub second : t₁' ≡ kept (judgeFilling d c (length g) (length t) (length t')) t' (negativeWords (firstWords (exponent c) d))
+pub record RootsFilled (d c k : ℕ) (g t t' : List ℕ) (r : Answer) (g₁ t₁ t₁' : List ℕ) : Type 0 where
+  pub answer : outcome r ≡ judgeFilling d c k (length g) (length t) (length t')
+  pub row : g₁ ≡ kept (judgeFilling d c k (length g) (length t) (length t')) g (onesWords c)
+  pub first : t₁ ≡ kept (judgeFilling d c k (length g) (length t) (length t')) t (firstWords (exponent c) d)
+  pub second : t₁' ≡ kept (judgeFilling d c k (length g) (length t) (length t')) t' (negativeWords (firstWords (exponent c) d))

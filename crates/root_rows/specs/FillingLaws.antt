@@ -1,10 +1,10 @@
 -- Laws of the job of filling: which rates pass, which refusal decides, what is known of slices that were filled, and whose values their codewords are. Assumes nothing.
-use mathlib.Core.Path.{_≡_, refl, sym, ap, subst, _∙_}
-use mathlib.Core.Bool.{Bool, true, false}
+use mathlib.Core.Path.{_≡_, refl, sym, ap, ap₂, subst, _∙_}
+use mathlib.Core.Bool.{Bool, true, false, _&&_}
 use mathlib.Core.List.{List, map}
 use mathlib.Core.Logic.{_↔_, _⊎_, inl, inr, ⊎-elim}
 use Prim.Native.Nat.{ℕ, zero, suc, _+_, _^_, _<_, _≤_}
-use native.Mathlib.Nat.{pow-suc}
+use native.Mathlib.Nat.{pow-suc, mul-one, one-mul}
 use native.Mathlib.Decide.{decLt}
 use native.Mathlib.Omega.{arith}
 use borrow.Author.Tests.{eqb-true, eq-eqb, ne-eqb}
@@ -18,13 +18,15 @@ use Rattle.algebra.specs.WordLists.{elements, toWords}
 use Rattle.roots.specs.RootCode.{Order, powers, value, reversed}
 use Rattle.roots.specs.SecondField.{root₂}
 use Rattle.job.specs.declared.Answer.{Answer}
-use Rattle.job.specs.Outcome.{unplaced, refused, done, outcome, require, kept}
-use Rattle.job.specs.OutcomeLaws.{after-done, stop, pass, holds, refuses, held, require-done, both}
-use Rattle.job.specs.Limits.{maxDepth, maxRate, depthOk, rateOk, blockSize, diagonalsSize}
-use Rattle.job.specs.LimitLaws.{depth-most, rate-least, rate-most}
-use Rattle.parameters.specs.Lent.{codeword}
-use Rattle.parameters.specs.Parameters.{limits, rowLengths, LegalRow}
-use Rattle.parameters.specs.ParameterLaws.{limits-done, within, row-lengths}
+use Rattle.job.specs.Outcome.{unplaced, Outcome, refused, done, outcome, require, _⨾_, kept}
+use Rattle.job.specs.OutcomeLaws.{stop, pass, holds, refuses, held, require-done}
+use Rattle.job.specs.Limits.{maxDepth, maxRate, rateOk, blockSize, diagonalsSize}
+use Rattle.job.specs.LimitLaws.{rate-least, rate-most}
+use Rattle.job.specs.Sizes.{k0Ok, depthOk, inLimits, baseSize}
+use Rattle.job.specs.SizeLaws.{limits-done, within}
+use Rattle.base_parameters.specs.Parameters.{rowLengths, legalRows, LegalRows}
+use Rattle.base_parameters.specs.ParameterLaws.{row-lengths}
+use Rattle.base_spread.specs.LentRows.{codewordRows}
 use Rattle.root_rows.specs.Rule.{onesWords, Room, ByRule}
 use Rattle.root_rows.specs.RuleLaws.{log-most, root-order, values-rule}
 use Rattle.root_rows.specs.Accepted.{lengths-rule, words-rule, legal-filled}
@@ -84,38 +86,55 @@ pub rates-exactly : (c : ℕ) → ((rateOk c ≡ true) × TwoPower c) ↔ ((c �
 unfolding rateOk
 rates-exactly c = (λ p. rates-pass c (p .0) (p .1), ⊎-elim (rate-at 1 refl) (⊎-elim (rate-at 2 refl) (⊎-elim (rate-at 3 refl) (rate-at 4 refl))))
 
+-- the rule is of one base row
+one-legal : k0Ok 1 ≡ true
+unfolding k0Ok
+one-legal = refl
+
+pub inside : (d c : ℕ) → depthOk 1 d ≡ true → rateOk c ≡ true → inLimits d c 1 ≡ true
+inside d c deep fair = ap₂ _&&_ deep (ap₂ _&&_ fair one-legal)
+
+-- 13 for every other k, behind 1 and 2
+pub thirteen-due : (d c k g t t' : ℕ) → depthOk 1 d ≡ true → rateOk c ≡ true → (k ≡ 1 → ⊥) → refused (unplaced 13) ≡ judgeFilling d c k g t t'
+thirteen-due d c k g t t' deep fair more = pass 1 deep (pass 2 fair (stop (require (rowLengths d c 1 g t t') 3 ⨾ require (isTwoPower c) 12) (ne-eqb k 1 more)))
+
 -- 3 before 12, within the limits
-module _ (d c g t t' : ℕ) (deep : depthOk d ≡ true) (fair : rateOk c ≡ true) where
-  pub three-due : rowLengths d c g t t' ≡ false → refused (unplaced 3) ≡ judgeFilling d c g t t'
-  three-due e = after-done (limits-done d c deep fair) (stop (require (isTwoPower c) 12) e)
+module _ (d c k g t t' : ℕ) (deep : depthOk 1 d ≡ true) (fair : rateOk c ≡ true) (one : k ≡ 1) where
+  behind : {o : Outcome (Unit {0})} → o ≡ require (rowLengths d c 1 g t t') 3 ⨾ require (isTwoPower c) 12 → o ≡ judgeFilling d c k g t t'
+  behind h = pass 1 deep (pass 2 fair (pass 13 (eq-eqb k 1 one) h))
 
-  pub twelve-due : rowLengths d c g t t' ≡ true → isTwoPower c ≡ false → refused (unplaced 12) ≡ judgeFilling d c g t t'
-  twelve-due e p = after-done (limits-done d c deep fair) (pass 3 e (refuses (unplaced 12) p))
+  pub three-due : rowLengths d c 1 g t t' ≡ false → refused (unplaced 3) ≡ judgeFilling d c k g t t'
+  three-due e = behind (stop (require (isTwoPower c) 12) e)
 
-  pub nothing-due : rowLengths d c g t t' ≡ true → isTwoPower c ≡ true → done tt ≡ judgeFilling d c g t t'
-  nothing-due e p = after-done (limits-done d c deep fair) (pass 3 e (holds 12 p))
+  pub twelve-due : rowLengths d c 1 g t t' ≡ true → isTwoPower c ≡ false → refused (unplaced 12) ≡ judgeFilling d c k g t t'
+  twelve-due e p = behind (pass 3 e (refuses (unplaced 12) p))
+
+  pub nothing-due : rowLengths d c 1 g t t' ≡ true → isTwoPower c ≡ true → done tt ≡ judgeFilling d c k g t t'
+  nothing-due e p = behind (pass 3 e (holds 12 p))
 
 -- what is known where none of them is due
-pub record FillingPassed (d c g t t' : ℕ) : Type 0 where
-  pub depth : depthOk d ≡ true
+pub record FillingPassed (d c k g t t' : ℕ) : Type 0 where
+  pub depth : depthOk 1 d ≡ true
   pub rate : rateOk c ≡ true
-  pub lengths : rowLengths d c g t t' ≡ true
+  pub one : k ≡ 1
+  pub lengths : rowLengths d c 1 g t t' ≡ true
   pub power : TwoPower c
 
-module _ (d c g t t' : ℕ) where
-  pub filling-exactly : (judgeFilling d c g t t' ≡ done tt) ↔ FillingPassed d c g t t'
+module _ (d c k g t t' : ℕ) where
+  pub filling-exactly : (judgeFilling d c k g t t' ≡ done tt) ↔ FillingPassed d c k g t t'
   filling-exactly = (
     λ e.
-        let a = both (limits d c) e in
-        let i = within d c (sym (a .0)) in
-        let l = require-done (rowLengths d c g t t') 3 (a .1) in
-        record { depth = i .0; rate = i .1; lengths = l .0; power = two-power c .0 (held (isTwoPower c) 12 (l .1)) },
-    λ p. sym (nothing-due d c g t t' (p .depth) (p .rate) (p .lengths) (two-power c .1 (p .power))),
+        let a = require-done (depthOk 1 d) 1 e in
+        let b = require-done (rateOk c) 2 (a .1) in
+        let i = require-done (eqb k 1) 13 (b .1) in
+        let l = require-done (rowLengths d c 1 g t t') 3 (i .1) in
+        record { depth = a .0; rate = b .0; one = eqb-true k 1 (i .0); lengths = l .0; power = two-power c .0 (held (isTwoPower c) 12 (l .1)) },
+    λ p. sym (nothing-due d c k g t t' (p .depth) (p .rate) (p .one) (p .lengths) (two-power c .1 (p .power))),
   )
 
-  module _ (e : judgeFilling d c g t t' ≡ done tt) where
+  module _ (e : judgeFilling d c k g t t' ≡ done tt) where
     pub deep : d ≤ maxDepth
-    deep = depth-most d (filling-exactly .0 e .depth)
+    deep = let p = filling-exactly .0 e in within d c 1 (inside d c (p .depth) (p .rate)) .depth
 
     pub power-is : c ≡ 2 ^ exponent c
     power-is = eqb-true c (2 ^ exponent c) (two-power c .1 (filling-exactly .0 e .power))
@@ -126,37 +145,38 @@ module _ (d c g t t' : ℕ) where
     -- the slices have the rule's lengths
     pub room : Room d (exponent c) g t t'
     room =
-        let l = row-lengths d c g t t' (filling-exactly .0 e .lengths) in
+        let l = row-lengths d c 1 g t t' (filling-exactly .0 e .lengths) in
+        let base : baseSize c 1 ≡ 2 ^ exponent c = mul-one c ∙ power-is in
         record {
           depth = deep;
           rate = power-most;
-          row = l .row ∙ power-is;
-          first = l .first ∙ ap (λ n. diagonalsSize n d) power-is;
-          second = l .second ∙ ap (λ n. diagonalsSize n d) power-is;
+          row = l .row ∙ one-mul (baseSize c 1) ∙ base;
+          first = l .first ∙ ap (λ n. diagonalsSize n d) base;
+          second = l .second ∙ ap (λ n. diagonalsSize n d) base;
         }
 
 -- a call
-module _ (d c : ℕ) (g t t' : List ℕ) (r : Answer) (g₁ t₁ t₁' : List ℕ) (𝓒 : RootsFilled d c g t t' r g₁ t₁ t₁') where
-  -- is done exactly at a legal depth and a rate of 2, 4, 8 or 16, with slices of the exact lengths
-  pub done-exactly : (outcome r ≡ done tt) ↔ FillingPassed d c (length g) (length t) (length t')
+module _ (d c k : ℕ) (g t t' : List ℕ) (r : Answer) (g₁ t₁ t₁' : List ℕ) (𝓒 : RootsFilled d c k g t t' r g₁ t₁ t₁') where
+  -- is done exactly at a legal depth, a rate of 2, 4, 8 or 16 and k = 1, with slices of the exact lengths
+  pub done-exactly : (outcome r ≡ done tt) ↔ FillingPassed d c k (length g) (length t) (length t')
   done-exactly =
-      let x = filling-exactly d c (length g) (length t) (length t') in
+      let x = filling-exactly d c k (length g) (length t) (length t') in
       (λ e. x .0 (sym (𝓒 .answer) ∙ e), λ p. 𝓒 .answer ∙ x .1 p)
 
   module _ (e : outcome r ≡ done tt) where
-    judged : judgeFilling d c (length g) (length t) (length t') ≡ done tt
+    judged : judgeFilling d c k (length g) (length t) (length t') ≡ done tt
     judged = sym (𝓒 .answer) ∙ e
 
     is : c ≡ 2 ^ exponent c
-    is = power-is d c (length g) (length t) (length t') judged
+    is = power-is d c k (length g) (length t) (length t') judged
 
     shallow : d ≤ maxDepth
-    shallow = deep d c (length g) (length t) (length t') judged
+    shallow = deep d c k (length g) (length t) (length t') judged
 
     most : 2 ^ exponent c ≤ maxRate
-    most = power-most d c (length g) (length t) (length t') judged
+    most = power-most d c k (length g) (length t) (length t') judged
 
-    new : (old made out : List ℕ) → out ≡ kept (judgeFilling d c (length g) (length t) (length t')) old made → out ≡ made
+    new : (old made out : List ℕ) → out ≡ kept (judgeFilling d c k (length g) (length t) (length t')) old made → out ≡ made
     new old made out h = h ∙ ap (λ o. kept o old made) judged
 
     pub filled-rule : ByRule d (exponent c) g₁ t₁ t₁'
@@ -168,16 +188,18 @@ module _ (d c : ℕ) (g t t' : List ℕ) (r : Answer) (g₁ t₁ t₁' : List �
         }
 
     -- no job refuses what it left
-    pub filled-legal : LegalRow 𝔽₂ d c g₁ t₁ t₁'
+    pub filled-legal : LegalRows 𝔽₂ d c 1 g₁ t₁ t₁'
     filled-legal =
         let x = done-exactly .0 e in
         record {
-          within = sym (limits-done d c (x .depth) (x .rate));
+          within = sym (limits-done d c 1 (inside d c (x .depth) (x .rate)));
           lengths =
-              ap (λ n. rowLengths d n (length g₁) (length t₁) (length t₁')) is
+              ap (λ n. rowLengths d n 1 (length g₁) (length t₁) (length t₁')) is
               ∙ lengths-rule d (exponent c) shallow most g₁ t₁ t₁' filled-rule;
           words = words-rule d (exponent c) shallow most g₁ t₁ t₁' filled-rule;
-          legal = legal-filled d (exponent c) shallow most g₁ t₁ t₁' filled-rule;
+          legal =
+              ap (λ n. legalRows 𝔽₂ 1 (baseSize n 1) g₁ t₁ t₁') is
+              ∙ legal-filled d (exponent c) shallow most g₁ t₁ t₁' filled-rule;
         }
 
     -- the table's entry has the order n_d
@@ -188,9 +210,10 @@ module _ (d c : ℕ) (g t t' : List ℕ) (r : Answer) (g₁ t₁ t₁' : List �
 
     -- the codeword of a message is the list of values of one polynomial, its coefficients the message in bit-reversed order, at the powers 0 .. n_d - 1 of it
     pub filled-values : (m : List ℕ) → length m ≡ 2 ^ d
-        → codeword 𝔽₂ d g₁ t₁ t₁' m
+        → codewordRows 𝔽₂ d 1 (baseSize c 1) g₁ t₁ t₁' m
         ≡ toWords 𝔽₂ (map (value (F₂ .ring) (reversed (F₂ .ring) d (elements 𝔽₂ m))) (powers (F₂ .ring) (root₂ (exponent c + d)) (blockSize c d)))
     filled-values m h =
-        ap (toWords 𝔽₂)
+        ap (λ n. codewordRows 𝔽₂ d 1 n g₁ t₁ t₁' m) (mul-one c ∙ is)
+        ∙ ap (toWords 𝔽₂)
         (values-rule d (exponent c) shallow most g₁ t₁ t₁' filled-rule m h
         ∙ ap (λ n. map (value (F₂ .ring) (reversed (F₂ .ring) d (elements 𝔽₂ m))) (powers (F₂ .ring) (root₂ (exponent c + d)) (blockSize n d))) (sym is))

@@ -1,23 +1,23 @@
 -- h from what is left of the message. Assumes nothing.
-use mathlib.Core.Path.{_≡_, sym, ap, ap₂, _∙_}
+use mathlib.Core.Path.{_≡_, sym, ap, _∙_}
 use mathlib.Core.List.{List, []}
-use Prim.Native.Nat.{ℕ, suc, _+_ as _+ℕ_, _^_, _<_, _≤_}
+use Prim.Native.Nat.{ℕ, suc, _+_ as _+ℕ_, _^_, _≤_}
 use native.Mathlib.Nat.{zero-add}
 use native.Mathlib.Omega.{arith}
-use lib.ListN.{length, take, drop, getD, length-take, drop-of-length-le}
-use lib.Seq.{getD-take, take-take, drop-nil}
+use lib.ListN.{length, take, drop, getD, drop-of-length-le}
+use lib.Seq.{drop-nil}
 use Rattle.algebra.specs.Ring.{Ring, one-mul}
 use Rattle.algebra.specs.Lists.{row-ext, row-getD}
 use Rattle.multilinear.specs.Polynomial.{coefficient, poly, fixed-nil}
-use Rattle.multilinear.specs.Corners.{eq, eq-nil}
+use Rattle.multilinear.specs.Corners.{eq-nil}
 use Rattle.multilinear.specs.Rounds.{h}
-use Rattle.multilinear.specs.Folding.{folded, length-folded, h-folded}
+use Rattle.multilinear.specs.Folding.{folded, h-folded}
 
 module _ (K : Ring) where
   infixl 65 _+_
   infixl 65 _-_
   infixl 70 _*_
-  open Ring K using (R, _+_, _*_, _-_, 𝟘, 𝟙, mul-assoc)
+  open Ring K using (R, _+_, _*_, _-_, 𝟘, 𝟙)
 
   -- with no challenge put in, all of the message is left
   folded-none : (m z : List R) (i : ℕ) → length m ≡ 2 ^ (0 +ℕ i) → folded K 0 m z [] i ≡ m
@@ -35,16 +35,3 @@ module _ (K : Ring) where
     where
       over : (i : ℕ) → length y ≡ suc i → length y ≤ suc i
       over i e = omega arith
-
-  -- h_(i+1) is eq of the variables above times h of what is left
-  pub h-left : (m z r : List R) (i : ℕ) (X : R) → i < length z
-      → eq K (drop (suc i) z) (drop (suc i) r) * h K 0 (folded K 0 m z r (suc i)) (take (suc i) z) [] (suc i) X ≡ h K 0 m z r (suc i) X
-  h-left m z r i X l =
-      let M = folded K 0 m z r (suc i) in
-      let y = take (suc i) z in
-      let E = eq K (drop (suc i) z) (drop (suc i) r) in
-      ap (λ (t : R). E * t)
-      (h-halves M y i X (length-take (suc i) z ∙ omega arith) (length-folded K 0 m z r (suc i) ∙ ap (λ n. 2 ^ n) (zero-add (suc i)))
-      ∙ ap₂ (λ (a : R) (s : List R). (a * X + (𝟙 - a) * (𝟙 - X)) * (poly K (take (2 ^ i) M) s + X * poly K (drop (2 ^ i) M) s)) (getD-take (suc i) z i 𝟘 (omega arith)) (take-take i (suc i) z (omega arith)))
-      ∙ sym (mul-assoc E _ _)
-      ∙ sym (h-folded K 0 m z r i X (omega arith) ∙ rw (zero-add i))

@@ -1,17 +1,15 @@
 -- What is left of the message after a challenge. Assumes nothing.
-use mathlib.Core.Path.{_≡_, ap, _∙_}
+use mathlib.Core.Path.{_≡_, _∙_}
 use mathlib.Core.List.{List}
 use Prim.Native.Nat.{ℕ, suc, _+_, _^_}
 use native.Mathlib.Nat.{two-pow-succ}
 use native.Mathlib.Omega.{arith}
-use lib.ListN.{length, take, drop, getD, length-take, length-drop}
-use lib.Seq.{take-at}
+use lib.ListN.{length, take, drop, length-take, length-drop}
 use Rattle.algebra.specs.Field.{Field}
 use Rattle.algebra.specs.Vector.{length-mix}
 use Rattle.algebra.specs.Words.{Words, PrimeField}
 use Rattle.algebra.specs.WordLists.{elements, toWords, length-words, length-elements}
-use Rattle.residue.specs.declared.Residue.{Residue}
-use Rattle.steps.specs.Steps.{LeftAbove, leftOf, TakeChallengeResult}
+use Rattle.steps.specs.Steps.{LeftAbove, leftOf}
 
 module _ (𝓕 : PrimeField) where
   open PrimeField 𝓕 using (field as F, words as W)
@@ -24,8 +22,3 @@ module _ (𝓕 : PrimeField) where
       let n : length E ≡ 2 ^ i + 2 ^ i = length-elements 𝓕 _ ∙ length-take (2 ^ suc i) s ∙ omega (arith, 𝓐 .room, two-pow-succ i) in
       length-words 𝓕 _
       ∙ length-mix K (2 ^ i) (take (2 ^ i) E) (el a) (drop (2 ^ i) E) (length-take (2 ^ i) E ∙ omega arith) (length-drop (2 ^ i) E ∙ omega arith)
-
-  -- what is left stands in the front of the work buffer
-  pub front-is : (i : ℕ) (w : Residue) (z r s : List ℕ) → LeftAbove 𝓕 i s → (v : Residue) (s' : List ℕ) → TakeChallengeResult 𝓕 i w z r s v s'
-      → take (2 ^ i) s' ≡ toWords 𝓕 (leftOf 𝓕 i (getD r i 0) s)
-  front-is i w z r s 𝓐 v s' 𝓣 = ap (take (2 ^ i)) (𝓣 .left) ∙ take-at _ (drop (2 ^ i) s) (2 ^ i) (length-leftOf i (getD r i 0) s 𝓐)

@@ -2,18 +2,17 @@
 use mathlib.Core.Path.{_≡_}
 use mathlib.Core.List.{List, [], _∷_, _++_}
 use Prim.Native.Nat.{ℕ, suc, _+_, _-_, _/_, _^_, _<_, _≤_}
-use lib.ListN.{length, take, drop, getD}
+use lib.ListN.{length, take, drop}
 use Rattle.algebra.specs.Ring.{Ring}
 use Rattle.algebra.specs.Field.{Field}
 use Rattle.algebra.specs.Numerals.{num}
 use Rattle.algebra.specs.Words.{Words, PrimeField}
 use Rattle.algebra.specs.WordLists.{Low as LowWords, elements, toWords}
-use Rattle.basefold.specs.Layout.{finalAt, openingSize}
-use Rattle.job.specs.Limits.{maxDepth, maxRate}
+use Rattle.basefold.specs.Layout.{finalAt}
+use Rattle.job.specs.Limits.{maxDepth}
 use Rattle.multilinear.specs.Folding.{foldMessage}
 use Rattle.multilinear.specs.Polynomial.{poly}
 use Rattle.multilinear.specs.Rounds.{h}
-use Rattle.parameters.specs.Lent.{Coding}
 use Rattle.polynomial.specs.Eq.{factor}
 use Rattle.polynomial.specs.Evaluation.{EvaluateInput}
 use Rattle.residue.specs.declared.Residue.{Residue}
@@ -85,29 +84,6 @@ module _ (𝓕 : PrimeField) where
   abbrev pub sentWords : ℕ → Residue → List ℕ → List ℕ → List ℕ
   sentWords i w z s = toWords 𝓕 (values (roundOf (elem 𝓕 w) (elements 𝓕 (take (2 ^ suc i) s)) (elements 𝓕 (take (suc i) z))))
 
-  pub record TakeChallengeInput (i : ℕ) (w : Residue) (z r s : List ℕ) : Type 0 where
-    pub deep : i < maxDepth
-    pub weight : Low 𝓕 w
-    pub point : i < length z
-    pub challenge : i < length r
-    pub low : LowWords P z
-    pub low' : LowWords P r
-    pub above : LeftAbove i s
-
   -- what is left at level i once the challenge a is put in
   abbrev pub leftOf : ℕ → ℕ → List ℕ → List Element
   leftOf i a s = foldMessage K (2 ^ i) (el a) (elements 𝓕 (take (2 ^ suc i) s))
-
-  -- the weight v at level i, and the work buffer s'
-  pub record TakeChallengeResult (i : ℕ) (w : Residue) (z r s : List ℕ) (v : Residue) (s' : List ℕ) : Type 0 where
-    pub weight : v .0 ≡ word (weighed (elem 𝓕 w) (el (getD z i 0)) (el (getD r i 0)))
-    pub left : s' ≡ toWords 𝓕 (leftOf i (getD r i 0) s) ++ drop (2 ^ i) s
-
-  pub record GiveBlockInput (d i : ℕ) (g t t' : List ℕ) (n : ℕ) (s : List ℕ) : Type 0 where
-    pub level : i < d
-    pub deep : d ≤ maxDepth
-    pub wide : length g ≤ maxRate
-    pub coding : Coding 𝓕 d g t t'
-    pub size : n ≡ openingSize (length g) 0 d
-    pub room : 2 ^ i ≤ length s
-    pub low : LowWords P (take (2 ^ i) s)

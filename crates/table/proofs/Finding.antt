@@ -70,23 +70,23 @@ module _ (𝓕 : PrimeField) where
       }
 
   -- the two jobs, done and refused
-  module _ (t : List ℤ) (old : List ℕ) where
-    pub coefficients-done : (new : List ℕ) → done tt ≡ judgeTable 𝓕 t (length old) → MessageOf 𝓕 t new → Coefficients 𝓕 t old new Done
+  module _ (k : ℕ) (t : List ℤ) (old : List ℕ) where
+    pub coefficients-done : (new : List ℕ) → done tt ≡ judgeTable 𝓕 k t (length old) → MessageOf 𝓕 t new → Coefficients 𝓕 k t old new Done
     coefficients-done new e f = record { answer = e; message = subst (λ o. Leaves o old new (MessageOf 𝓕 t new)) e f }
 
-    pub coefficients-refused : (r : Refusal) → refused (due r) ≡ judgeTable 𝓕 t (length old) → Coefficients 𝓕 t old old (Refused r)
+    pub coefficients-refused : (r : Refusal) → refused (due r) ≡ judgeTable 𝓕 k t (length old) → Coefficients 𝓕 k t old old (Refused r)
     coefficients-refused r e = record { answer = e; message = subst (λ o. Leaves o old old (MessageOf 𝓕 t old)) e refl }
 
-  module _ (m : List ℕ) (old : List ℤ) (work : List ℕ) where
-    pub tables-done : (new : List ℤ) (left : List ℕ) → done tt ≡ judgeMessage 𝓕 m (length old) (length work)
-        → new ≡ tableOf 𝓕 m → left ≡ replicate (length work) 0 → Tables 𝓕 m old new work left Done
+  module _ (k : ℕ) (m : List ℕ) (old : List ℤ) (work : List ℕ) where
+    pub tables-done : (new : List ℤ) (left : List ℕ) → done tt ≡ judgeMessage 𝓕 k m (length old) (length work)
+        → new ≡ tableOf 𝓕 m → left ≡ replicate (length work) 0 → Tables 𝓕 k m old new work left Done
     tables-done new left e p q = record {
       answer = e;
       clearances = p ∙ ap (λ o. kept o old (tableOf 𝓕 m)) e;
       cleared = q ∙ ap (λ o. kept o work (replicate (length work) 0)) e;
     }
 
-    pub tables-refused : (r : Refusal) → refused (due r) ≡ judgeMessage 𝓕 m (length old) (length work) → Tables 𝓕 m old old work work (Refused r)
+    pub tables-refused : (r : Refusal) → refused (due r) ≡ judgeMessage 𝓕 k m (length old) (length work) → Tables 𝓕 k m old old work work (Refused r)
     tables-refused r e = record {
       answer = e;
       clearances = ap (λ o. kept o old (tableOf 𝓕 m)) e;

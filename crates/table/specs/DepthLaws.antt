@@ -1,15 +1,20 @@
--- Laws of depths: a length that a table may have is 2 to its depth, and each such power is one. Assumes nothing.
-use mathlib.Core.Path.{_≡_, refl, ap, _∙_}
-use mathlib.Core.Bool.{Bool, true, false, _||_, cond}
-use Prim.Native.Nat.{ℕ, zero, suc, _^_, _<_, _≤_}
+-- Laws of depths: a length that a table may have is 2 to its depth, and each such power is one; which lengths these are for k words a base message. Assumes nothing.
+use mathlib.Core.Path.{_≡_, refl, sym, ap, ap₂, _∙_}
+use mathlib.Core.Bool.{Bool, true, false, _||_, _&&_, cond}
+use mathlib.Core.Logic.{_↔_}
+use Prim.Native.Nat.{ℕ, zero, suc, _+_, _*_, _-_, _^_, _<_, _≤_}
 use native.Mathlib.Nat.{le-refl}
 use native.Mathlib.Decide.{decLt}
 use native.Mathlib.Omega.{arith}
-use lib.Dec.{eqb}
-use borrow.Author.Tests.{eqb-true, eq-eqb}
+use lib.Dec.{eqb, leb}
+use lib.Pow.{pow-add, pow-mono, pow-lt}
+use borrow.Author.Tests.{eqb-true, eq-eqb, leb-true, le-leb}
+use Rattle.algebra.specs.Tests.{and-both}
 use Rattle.job.specs.Limits.{maxDepth, maxMessage}
 use Rattle.job.specs.LimitLaws.{power-most}
-use Rattle.table.specs.Depth.{isPowerTo, exponentTo, isPower, exponent}
+use Rattle.job.specs.Sizes.{soundK, low}
+use Rattle.job.specs.SizeLaws.{power-low}
+use Rattle.table.specs.Depth.{isPowerTo, exponentTo, isPower, exponent, tableOk}
 
 -- what the exponent is
 Is : ℕ → ℕ → ℕ → Type 0
@@ -50,3 +55,45 @@ power-is (suc k) d h = go (power-is k d) (decLt d (suc k))
     go : (d ≤ k → isPowerTo k (2 ^ d) ≡ true) → Dec (d < suc k) → isPowerTo (suc k) (2 ^ d) ≡ true
     go rest (yes l) = ap (λ b. eqb (2 ^ d) (2 ^ suc k) || b) (rest (omega arith)) ∙ or-true (eqb (2 ^ d) (2 ^ suc k))
     go rest (no l) = let z : d ≡ suc k = omega arith in ap (λ b. b || isPowerTo k (2 ^ d)) (eq-eqb (2 ^ d) (2 ^ suc k) (ap (λ n. 2 ^ n) z))
+
+-- the length of a table, with k words a base message
+pub table-power : (k n : ℕ) → tableOk k n ≡ true → isPower n ≡ true
+unfolding tableOk
+table-power k n e = and-both (isPower n) (leb (soundK k) n) e .0
+
+-- some depth has n entries, and they are not too many
+pub record TableSize (k n : ℕ) : Type 0 where
+  pub depth : ℕ
+  pub is : n ≡ soundK k * 2 ^ depth
+  pub most : n ≤ maxMessage
+
+-- powers are in the order of their exponents
+exponent-least : (i j : ℕ) → 2 ^ i ≤ 2 ^ j → i ≤ j
+exponent-least i j h = go (decLt j i)
+  where
+    go : Dec (j < i) → i ≤ j
+    go (yes l) = absurd (omega (arith, pow-lt l))
+    go (no l) = omega arith
+
+whole : (k d : ℕ) → 2 ^ (low k + d) ≡ soundK k * 2 ^ d
+whole k d = pow-add 2 (low k) d ∙ ap (λ n. n * 2 ^ d) (power-low k)
+
+-- the lengths that pass are those
+pub table-exactly : (k n : ℕ) → (tableOk k n ≡ true) ↔ TableSize k n
+unfolding tableOk
+table-exactly k n = (there, back)
+  where
+    there : (isPower n && leb (soundK k) n) ≡ true → TableSize k n
+    there e =
+        let a = and-both (isPower n) (leb (soundK k) n) e in
+        let is = exponent-is maxDepth n (a .0) in
+        let few = exponent-least (low k) (exponent n) (omega (arith, power-low k, is, leb-true (soundK k) n (a .1))) in
+        let up : exponent n ≡ low k + (exponent n - low k) = omega arith in
+        record { depth = exponent n - low k; is = is ∙ ap (λ i. 2 ^ i) up ∙ whole k (exponent n - low k); most = length-most n (a .0) }
+
+    back : TableSize k n → (isPower n && leb (soundK k) n) ≡ true
+    back s =
+        let is : n ≡ 2 ^ (low k + s .depth) = s .is ∙ sym (whole k (s .depth)) in
+        let few = exponent-least (low k + s .depth) maxDepth (omega (arith, is, s .most)) in
+        ap₂ _&&_ (ap isPower is ∙ power-is maxDepth (low k + s .depth) few)
+        (le-leb (soundK k) n (omega (arith, is, power-low k, pow-mono {i = low k} {j = low k + s .depth} (omega arith))))

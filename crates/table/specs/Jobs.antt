@@ -13,10 +13,11 @@ use Rattle.multilinear.specs.Table.{table}
 use Rattle.job.specs.declared.Answer.{Answer}
 use Rattle.job.specs.declared.Input.the-variants.{Block}
 use Rattle.job.specs.Outcome.{Outcome, refused, done, require, _⨾_, outcome, kept}
+use Rattle.job.specs.Sizes.{k0Ok}
 use Rattle.residue.specs.Elements.{P, K, el}
 use Rattle.places.specs.Inputs.{judgeWords}
 use Rattle.clearance.specs.Clearances.{inRange, residueOf, clearanceOf}
-use Rattle.table.specs.Depth.{isPower, exponent}
+use Rattle.table.specs.Depth.{exponent, tableOk}
 
 -- the buffer is as it was where a refusal is due, and else as made
 abbrev pub Leaves : {A B : Type 0} → Outcome A → (old new : List B) → Type 0 → Type 0
@@ -24,9 +25,9 @@ Leaves (refused n) old new made = new ≡ old
 Leaves (done a) old new made = made
 
 module _ (𝓕 : PrimeField) where
-  -- the outcome for a table, and for the length of the message's buffer
-  abbrev pub judgeTable : List ℤ → ℕ → Outcome (Unit {0})
-  judgeTable t n = require (isPower (length t)) 1 ⨾ require (eqb n (length t)) 3 ⨾ require (all (inRange 𝓕) t) 9
+  -- the outcome for a table, with k words a base message, and for the length of the message's buffer
+  abbrev pub judgeTable : ℕ → List ℤ → ℕ → Outcome (Unit {0})
+  judgeTable k t n = require (tableOk k (length t)) 1 ⨾ require (k0Ok k) 13 ⨾ require (eqb n (length t)) 3 ⨾ require (all (inRange 𝓕) t) 9
 
   -- m is the message of the table t: the polynomial with these coefficients has entry b as its value at corner b
   pub record MessageOf (t : List ℤ) (m : List ℕ) : Type 0 where
@@ -34,19 +35,19 @@ module _ (𝓕 : PrimeField) where
     pub low : Low (P 𝓕) m
     pub values : table (K 𝓕) (exponent (length t)) (elements 𝓕 m) ≡ map (λ x. el 𝓕 (residueOf 𝓕 x)) t
 
-  pub record ToCoefficients (t : List ℤ) (old new : List ℕ) (r : Answer) : Type 0 where
-    pub answer : outcome r ≡ judgeTable t (length old)
-    pub message : Leaves (judgeTable t (length old)) old new (MessageOf t new)
+  pub record ToCoefficients (k : ℕ) (t : List ℤ) (old new : List ℕ) (r : Answer) : Type 0 where
+    pub answer : outcome r ≡ judgeTable k t (length old)
+    pub message : Leaves (judgeTable k t (length old)) old new (MessageOf t new)
 
   -- the outcome for a message, which counts as the block, and for the lengths of the clearances' and the work buffer
-  abbrev pub judgeMessage : List ℕ → ℕ → ℕ → Outcome (Unit {0})
-  judgeMessage m n k = require (isPower (length m)) 1 ⨾ require (eqb n (length m) && eqb k (length m)) 3 ⨾ judgeWords 𝓕 ((Block, m) ∷ [])
+  abbrev pub judgeMessage : ℕ → List ℕ → ℕ → ℕ → Outcome (Unit {0})
+  judgeMessage k m n w = require (tableOk k (length m)) 1 ⨾ require (k0Ok k) 13 ⨾ require (eqb n (length m) && eqb w (length m)) 3 ⨾ judgeWords 𝓕 ((Block, m) ∷ [])
 
   -- the table of a message, as clearances
   abbrev pub tableOf : List ℕ → List ℤ
   tableOf m = map (clearanceOf 𝓕) (toWords 𝓕 (table (K 𝓕) (exponent (length m)) (elements 𝓕 m)))
 
-  pub record ToTable (m : List ℕ) (old new : List ℤ) (work left : List ℕ) (r : Answer) : Type 0 where
-    pub answer : outcome r ≡ judgeMessage m (length old) (length work)
-    pub clearances : new ≡ kept (judgeMessage m (length old) (length work)) old (tableOf m)
-    pub cleared : left ≡ kept (judgeMessage m (length old) (length work)) work (replicate (length work) 0)
+  pub record ToTable (k : ℕ) (m : List ℕ) (old new : List ℤ) (work left : List ℕ) (r : Answer) : Type 0 where
+    pub answer : outcome r ≡ judgeMessage k m (length old) (length work)
+    pub clearances : new ≡ kept (judgeMessage k m (length old) (length work)) old (tableOf m)
+    pub cleared : left ≡ kept (judgeMessage k m (length old) (length work)) work (replicate (length work) 0)

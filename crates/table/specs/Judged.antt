@@ -11,39 +11,54 @@ use Rattle.algebra.specs.Words.{PrimeField}
 use Rattle.algebra.specs.Tests.{all, and-both}
 use Rattle.job.specs.Outcome.{done}
 use Rattle.job.specs.OutcomeLaws.{pass, holds, pass-demand, require-done, demand-done, held}
+use Rattle.job.specs.Sizes.{k0Ok}
 use Rattle.words.specs.Scans.{allBelow}
 use Rattle.clearance.specs.Clearances.{inRange}
-use Rattle.table.specs.Depth.{isPower}
+use Rattle.table.specs.Depth.{isPower, tableOk}
+use Rattle.table.specs.DepthLaws.{table-power}
 use Rattle.table.specs.Jobs.{judgeTable, judgeMessage}
 
-module _ (𝓕 : PrimeField) (t : List ℤ) (n : ℕ) where
+module _ (𝓕 : PrimeField) (k : ℕ) (t : List ℤ) (n : ℕ) where
   pub record TableLegal : Type 0 where
+    pub fits : tableOk k (length t) ≡ true
     pub power : isPower (length t) ≡ true
+    pub base : k0Ok k ≡ true
     pub same : n ≡ length t
     pub range : all (inRange 𝓕) t ≡ true
 
-  pub table-passed : judgeTable 𝓕 t n ≡ done tt → TableLegal
+  pub table-passed : judgeTable 𝓕 k t n ≡ done tt → TableLegal
   table-passed e =
-      let a = require-done (isPower (length t)) 1 e in
-      let b = require-done (eqb n (length t)) 3 (a .1) in
-      record { power = a .0; same = eqb-true n (length t) (b .0); range = held (all (inRange 𝓕) t) 9 (b .1) }
+      let a = require-done (tableOk k (length t)) 1 e in
+      let b = require-done (k0Ok k) 13 (a .1) in
+      let c = require-done (eqb n (length t)) 3 (b .1) in
+      record { fits = a .0; power = table-power k (length t) (a .0); base = b .0; same = eqb-true n (length t) (c .0); range = held (all (inRange 𝓕) t) 9 (c .1) }
 
-  pub table-done : isPower (length t) ≡ true → n ≡ length t → all (inRange 𝓕) t ≡ true → done tt ≡ judgeTable 𝓕 t n
-  table-done p q r = pass 1 p (pass 3 (eq-eqb n (length t) q) (holds 9 r))
+  pub table-done : tableOk k (length t) ≡ true → k0Ok k ≡ true → n ≡ length t → all (inRange 𝓕) t ≡ true → done tt ≡ judgeTable 𝓕 k t n
+  table-done p b q r = pass 1 p (pass 13 b (pass 3 (eq-eqb n (length t) q) (holds 9 r)))
 
-module _ (𝓕 : PrimeField) (m : List ℕ) (n k : ℕ) where
+module _ (𝓕 : PrimeField) (k : ℕ) (m : List ℕ) (n w : ℕ) where
   pub record MessageLegal : Type 0 where
+    pub fits : tableOk k (length m) ≡ true
     pub power : isPower (length m) ≡ true
+    pub base : k0Ok k ≡ true
     pub same : n ≡ length m
-    pub room : k ≡ length m
+    pub room : w ≡ length m
     pub below : allBelow 𝓕 m ≡ true
 
-  pub message-passed : judgeMessage 𝓕 m n k ≡ done tt → MessageLegal
+  pub message-passed : judgeMessage 𝓕 k m n w ≡ done tt → MessageLegal
   message-passed e =
-      let a = require-done (isPower (length m)) 1 e in
-      let b = require-done (eqb n (length m) && eqb k (length m)) 3 (a .1) in
-      let l = and-both (eqb n (length m)) (eqb k (length m)) (b .0) in
-      record { power = a .0; same = eqb-true n (length m) (l .0); room = eqb-true k (length m) (l .1); below = demand-done (allBelow 𝓕 m) _ (b .1) .0 }
+      let a = require-done (tableOk k (length m)) 1 e in
+      let b = require-done (k0Ok k) 13 (a .1) in
+      let c = require-done (eqb n (length m) && eqb w (length m)) 3 (b .1) in
+      let l = and-both (eqb n (length m)) (eqb w (length m)) (c .0) in
+      record {
+        fits = a .0;
+        power = table-power k (length m) (a .0);
+        base = b .0;
+        same = eqb-true n (length m) (l .0);
+        room = eqb-true w (length m) (l .1);
+        below = demand-done (allBelow 𝓕 m) _ (c .1) .0;
+      }
 
-  pub message-done : isPower (length m) ≡ true → n ≡ length m → k ≡ length m → allBelow 𝓕 m ≡ true → done tt ≡ judgeMessage 𝓕 m n k
-  message-done p q s r = pass 1 p (pass 3 (ap₂ _&&_ (eq-eqb n (length m) q) (eq-eqb k (length m) s)) (pass-demand _ r refl))
+  pub message-done : tableOk k (length m) ≡ true → k0Ok k ≡ true → n ≡ length m → w ≡ length m → allBelow 𝓕 m ≡ true → done tt ≡ judgeMessage 𝓕 k m n w
+  message-done p b q s r = pass 1 p (pass 13 b (pass 3 (ap₂ _&&_ (eq-eqb n (length m) q) (eq-eqb w (length m) s)) (pass-demand _ r refl)))

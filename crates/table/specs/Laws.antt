@@ -16,7 +16,7 @@ use Rattle.job.specs.Outcome.{Outcome, done, outcome, kept}
 use Rattle.words.specs.ScanLaws.{all-below, below-all}
 use Rattle.clearance.specs.Clearances.{inRange, residueOf, clearanceOf}
 use Rattle.clearance.specs.ClearanceLaws.{residue-lt, clearance-residue, clearance-range, residue-clearance}
-use Rattle.table.specs.Depth.{isPower, exponent}
+use Rattle.table.specs.Depth.{isPower, exponent, tableOk}
 use Rattle.table.specs.DepthLaws.{exponent-is}
 use Rattle.table.specs.Judged.{table-passed, table-done, message-passed, message-done}
 use Rattle.table.specs.Jobs.{judgeTable, MessageOf, Leaves, ToCoefficients, tableOf, ToTable}
@@ -100,28 +100,28 @@ module _ (𝓕 : PrimeField) where
       }
 
   -- a table that became a message comes back from it
-  pub there-and-back : {t new : List ℤ} {old m work left : List ℕ} {r r′ : Answer} (other : List ℤ)
-      → ToCoefficients 𝓕 t old m r → outcome r ≡ done tt → ToTable 𝓕 m other new work left r′ → length other ≡ length t → length work ≡ length t
+  pub there-and-back : {k : ℕ} {t new : List ℤ} {old m work left : List ℕ} {r r′ : Answer} (other : List ℤ)
+      → ToCoefficients 𝓕 k t old m r → outcome r ≡ done tt → ToTable 𝓕 k m other new work left r′ → length other ≡ length t → length work ≡ length t
       → (outcome r′ ≡ done tt) × (new ≡ t)
-  there-and-back {t} {new} {old} {m} {work} other c d b o w =
+  there-and-back {k} {t} {new} {old} {m} {work} other c d b o w =
       let passed = sym (c .answer) ∙ d in
-      let legal = table-passed 𝓕 t (length old) passed in
-      let f = made (judgeTable 𝓕 t (length old)) old m (MessageOf 𝓕 t m) passed (c .message) in
+      let legal = table-passed 𝓕 k t (length old) passed in
+      let f = made (judgeTable 𝓕 k t (length old)) old m (MessageOf 𝓕 t m) passed (c .message) in
       let same : length m ≡ length t = f .size ∙ sym (exponent-is _ (length t) (legal .power)) in
-      let fine = message-done 𝓕 m (length other) (length work) (ap isPower same ∙ legal .power) (o ∙ sym same) (w ∙ sym same) (below-all 𝓕 m (f .low)) in
+      let fine = message-done 𝓕 k m (length other) (length work) (ap (tableOk k) same ∙ legal .fits) (legal .base) (o ∙ sym same) (w ∙ sym same) (below-all 𝓕 m (f .low)) in
       (b .answer ∙ sym fine, b .clearances ∙ ap (λ x. kept x other (tableOf 𝓕 m)) (sym fine) ∙ table-message t m (legal .power) (legal .range) f)
 
   -- a message that became a table comes back from it
-  pub back-and-there : {old t : List ℤ} {m m′ work left : List ℕ} {r r′ : Answer} (other : List ℕ)
-      → ToTable 𝓕 m old t work left r → outcome r ≡ done tt → ToCoefficients 𝓕 t other m′ r′ → length other ≡ length m
+  pub back-and-there : {k : ℕ} {old t : List ℤ} {m m′ work left : List ℕ} {r r′ : Answer} (other : List ℕ)
+      → ToTable 𝓕 k m old t work left r → outcome r ≡ done tt → ToCoefficients 𝓕 k t other m′ r′ → length other ≡ length m
       → (outcome r′ ≡ done tt) × (m′ ≡ m)
-  back-and-there {old} {t} {m} {m′} {work} other b d c o =
+  back-and-there {k} {old} {t} {m} {m′} {work} other b d c o =
       let passed = sym (b .answer) ∙ d in
-      let legal = message-passed 𝓕 m (length old) (length work) passed in
+      let legal = message-passed 𝓕 k m (length old) (length work) passed in
       let is : t ≡ tableOf 𝓕 m = b .clearances ∙ ap (λ x. kept x old (tableOf 𝓕 m)) passed in
       let same : length t ≡ length m = ap length is ∙ length-tableOf m (legal .power) in
-      let fine = table-done 𝓕 t (length other) (ap isPower same ∙ legal .power) (o ∙ sym same) (ap (all (inRange 𝓕)) is ∙ in-range _) in (
+      let fine = table-done 𝓕 k t (length other) (ap (tableOk k) same ∙ legal .fits) (legal .base) (o ∙ sym same) (ap (all (inRange 𝓕)) is ∙ in-range _) in (
         c .answer ∙ sym fine,
-        message-unique t m′ m (made (judgeTable 𝓕 t (length other)) other m′ (MessageOf 𝓕 t m′) (sym fine) (c .message))
+        message-unique t m′ m (made (judgeTable 𝓕 k t (length other)) other m′ (MessageOf 𝓕 t m′) (sym fine) (c .message))
             (subst (λ x. MessageOf 𝓕 x m) (sym is) (message-table m (legal .power) (all-below 𝓕 m (legal .below)))),
       )

@@ -15,20 +15,24 @@ ghost use Rattle.table.specs.Jobs.{judgeTable, ToCoefficients};
 use crate::length;
 use clearance::slices;
 use job::Answer;
+use job::Parameters;
 use job::Refusal;
+use job::sizes;
 use residue::Field;
 use transform::Way;
 
-// The tests are made before any refusal, which costs a refused call one scan.
-fn judge(clearances: &[i32], len: usize, field: Field) -> Answer
-    ensures { λ r. ⌜ outcome r ≡ judgeTable (chosen field) (now (clearances .entry)) len ⌝ }
+// The tests are made before any refusal, which costs a refused call one scan. Depth and rate are not asked.
+fn judge(p: Parameters, clearances: &[i32], len: usize, field: Field) -> Answer
+    ensures { λ r. ⌜ outcome r ≡ judgeTable (chosen field) (p .k0) (now (clearances .entry)) len ⌝ }
 {
-    let power = length::is_power(clearances.len());
+    let fits = length::table_ok(p, clearances.len());
+    let k0 = sizes::k0_ok(p);
     let same = len == clearances.len();
     let in_range = slices::all_in_range(clearances, field);
     let range = job::require(in_range, Refusal::Clearance, Answer::Done);
     let lengths = job::require(same, Refusal::Length, range);
-    job::require(power, Refusal::Depth, lengths)
+    let base = job::require(k0, Refusal::BaseWords, lengths);
+    job::require(fits, Refusal::Depth, base)
 }
 
 fn find(clearances: &[i32], message: &mut [u32], field: Field)
@@ -42,10 +46,15 @@ fn find(clearances: &[i32], message: &mut [u32], field: Field)
     transform::transform(Way::ToCoefficients, depth, message, field);
 }
 
-pub fn table_to_coefficients(clearances: &[i32], message: &mut [u32], field: Field) -> Answer
-    ensures { λ r. ⌜ ToCoefficients (chosen field) (now (clearances .entry)) (now (message .entry)) (now (message .exit)) r ⌝ }
+pub fn table_to_coefficients(
+    p: Parameters,
+    clearances: &[i32],
+    message: &mut [u32],
+    field: Field,
+) -> Answer
+    ensures { λ r. ⌜ ToCoefficients (chosen field) (p .k0) (now (clearances .entry)) (now (message .entry)) (now (message .exit)) r ⌝ }
 {
-    let verdict = judge(clearances, message.len(), field);
+    let verdict = judge(p, clearances, message.len(), field);
     match verdict {
         Answer::Done => {
             find(clearances, message, field);

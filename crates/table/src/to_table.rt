@@ -11,19 +11,24 @@ ghost use Rattle.table.specs.Jobs.{judgeMessage, tableOf, ToTable};
 use crate::length;
 use clearance::slices;
 use job::Answer;
+use job::Parameters;
 use job::Refusal;
+use job::sizes;
 use places::inputs;
 use residue::Field;
 use transform::Way;
 use words::scan;
 
 // The message counts as the block. One of its words is looked for only where a scan has found that there is one, and where the length has shown that
-// each has an index.
-fn judge(m: &[u32], table: usize, work: usize, field: Field) -> Answer
-    ensures { λ r. ⌜ outcome r ≡ judgeMessage (chosen field) (now (m .entry)) table work ⌝ }
+// each has an index. Depth and rate are not asked.
+fn judge(p: Parameters, m: &[u32], table: usize, work: usize, field: Field) -> Answer
+    ensures { λ r. ⌜ outcome r ≡ judgeMessage (chosen field) (p .k0) (now (m .entry)) table work ⌝ }
 {
-    if !length::is_power(m.len()) {
+    if !length::table_ok(p, m.len()) {
         return Answer::Refused(Refusal::Depth);
+    }
+    if !sizes::k0_ok(p) {
+        return Answer::Refused(Refusal::BaseWords);
     }
     let same = (table == m.len()) & (work == m.len());
     if !same {
@@ -46,14 +51,15 @@ fn find(message: &[u32], clearances: &mut [i32], work: &mut [u32], field: Field)
 }
 
 pub fn coefficients_to_table(
+    p: Parameters,
     message: &[u32],
     clearances: &mut [i32],
     work: &mut [u32],
     field: Field,
 ) -> Answer
-    ensures { λ r. ⌜ ToTable (chosen field) (now (message .entry)) (now (clearances .entry)) (now (clearances .exit)) (now (work .entry)) (now (work .exit)) r ⌝ }
+    ensures { λ r. ⌜ ToTable (chosen field) (p .k0) (now (message .entry)) (now (clearances .entry)) (now (clearances .exit)) (now (work .entry)) (now (work .exit)) r ⌝ }
 {
-    let verdict = judge(message, clearances.len(), work.len(), field);
+    let verdict = judge(p, message, clearances.len(), work.len(), field);
     match verdict {
         Answer::Done => {
             find(message, clearances, work, field);

@@ -2,6 +2,7 @@
 ghost use mathlib.Core.Path.{_≡_};
 ghost use Rattle.clearance.specs.Reading.{reading as readingOf};
 ghost use Rattle.reply.specs.Replies.{fieldOf, readingReply, ToCoefficientsCall, ToTableCall, EvaluateCall};
+use job::Parameters;
 use polynomial::Evaluation;
 use reply::answer;
 use reply::answer::Reply;
@@ -19,12 +20,14 @@ pub extern "C" fn tv_read_clearance(field: bool, word: u32) -> ReadingReply
 #[no_mangle]
 pub extern "C" fn tv_table_to_coefficients(
     field: bool,
+    p: Parameters,
     clearances: &[i32],
     message: &mut [u32],
 ) -> Reply
-    ensures { λ r. ⌜ ToCoefficientsCall (fieldOf field) (now (clearances .entry)) (now (message .entry)) (now (message .exit)) r ⌝ }
+    ensures { λ r. ⌜ ToCoefficientsCall (fieldOf field) (p .k0) (now (clearances .entry)) (now (message .entry)) (now (message .exit)) r ⌝ }
 {
     answer::plain(table::to_coefficients::table_to_coefficients(
+        p,
         clearances,
         message,
         field::named(field),
@@ -34,13 +37,15 @@ pub extern "C" fn tv_table_to_coefficients(
 #[no_mangle]
 pub extern "C" fn tv_coefficients_to_table(
     field: bool,
+    p: Parameters,
     message: &[u32],
     clearances: &mut [i32],
     work: &mut [u32],
 ) -> Reply
-    ensures { λ r. ⌜ ToTableCall (fieldOf field) (now (message .entry)) (now (clearances .entry)) (now (clearances .exit)) (now (work .entry)) (now (work .exit)) r ⌝ }
+    ensures { λ r. ⌜ ToTableCall (fieldOf field) (p .k0) (now (message .entry)) (now (clearances .entry)) (now (clearances .exit)) (now (work .entry)) (now (work .exit)) r ⌝ }
 {
     answer::plain(table::to_table::coefficients_to_table(
+        p,
         message,
         clearances,
         work,
@@ -51,14 +56,14 @@ pub extern "C" fn tv_coefficients_to_table(
 #[no_mangle]
 pub extern "C" fn tv_evaluate(
     field: bool,
-    depth: u32,
+    p: Parameters,
     message: &[u32],
     z: &[u32],
     value: &mut u32,
 ) -> Reply
-    ensures { λ r. ⌜ EvaluateCall (fieldOf field) depth (now (message .entry)) (now (z .entry)) (now (value .entry)) r (now (value .exit)) ⌝ }
+    ensures { λ r. ⌜ EvaluateCall (fieldOf field) (p .depth) (p .k0) (now (message .entry)) (now (z .entry)) (now (value .entry)) r (now (value .exit)) ⌝ }
 {
-    let e = polynomial::evaluate(depth, message, z, field::named(field));
+    let e = polynomial::evaluate(p, message, z, field::named(field));
     match e {
         Evaluation::Value(v) => {
             *value = v;

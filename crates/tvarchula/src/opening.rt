@@ -3,6 +3,7 @@ ghost use mathlib.Core.Path.{_≡_};
 ghost use Rattle.verdict.specs.Verdicts.{numbersOf};
 ghost use Rattle.verify.specs.Verifying.{verification};
 ghost use Rattle.reply.specs.Replies.{fieldOf, triple, WriteCall};
+use job::Parameters;
 use open::Written;
 use reply::answer;
 use reply::answer::Reply;
@@ -12,8 +13,7 @@ use reply::verifying;
 #[no_mangle]
 pub extern "C" fn tv_write_opening(
     field: bool,
-    depth: u32,
-    rate: u32,
+    p: Parameters,
     g: &[u32],
     t: &[u32],
     t2: &[u32],
@@ -24,11 +24,10 @@ pub extern "C" fn tv_write_opening(
     work: &mut [u32],
     value: &mut u32,
 ) -> Reply
-    ensures { λ a. ⌜ WriteCall (fieldOf field) depth rate (now (g .entry)) (now (t .entry)) (now (t2 .entry)) (now (message .entry)) (now (z .entry)) (now (r .entry)) (now (opening .entry)) (now (work .entry)) (now (value .entry)) a (now (opening .exit)) (now (work .exit)) (now (value .exit)) ⌝ }
+    ensures { λ a. ⌜ WriteCall (fieldOf field) (p .depth) (p .rate) (p .k0) (now (g .entry)) (now (t .entry)) (now (t2 .entry)) (now (message .entry)) (now (z .entry)) (now (r .entry)) (now (opening .entry)) (now (work .entry)) (now (value .entry)) a (now (opening .exit)) (now (work .exit)) (now (value .exit)) ⌝ }
 {
     let w = open::write_opening(
-        depth,
-        rate,
+        p,
         g,
         t,
         t2,
@@ -55,8 +54,7 @@ pub extern "C" fn tv_write_opening(
 #[no_mangle]
 pub extern "C" fn tv_verify_opening<'a>(
     field: bool,
-    depth: u32,
-    rate: u32,
+    p: Parameters,
     g: &[u32],
     t: &[u32],
     t2: &[u32],
@@ -67,11 +65,10 @@ pub extern "C" fn tv_verify_opening<'a>(
     queries: &[u32],
     opening: &'a [u32],
 ) -> Reply
-    ensures { λ a. ⌜ a ≡ triple (numbersOf (verification (fieldOf field) depth rate (now (g .entry)) (now (t .entry)) (now (t2 .entry)) (now (block .entry)) (now (z .entry)) y (now (r .entry)) (now (queries .entry)) (now (opening .entry)))) ⌝ }
+    ensures { λ a. ⌜ a ≡ triple (numbersOf (verification (fieldOf field) (p .depth) (p .rate) (p .k0) (now (g .entry)) (now (t .entry)) (now (t2 .entry)) (now (block .entry)) (now (z .entry)) y (now (r .entry)) (now (queries .entry)) (now (opening .entry)))) ⌝ }
 {
     verifying::told(verify::verify_opening(
-        depth,
-        rate,
+        p,
         g,
         t,
         t2,

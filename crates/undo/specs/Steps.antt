@@ -10,11 +10,10 @@ use Rattle.algebra.specs.Vector.{Vectors, vectors}
 use Rattle.algebra.specs.Words.{Words, PrimeField}
 use Rattle.algebra.specs.WordLists.{Low as LowWords, elements, toWords}
 use Rattle.foldable.specs.Code.{Code, Legal}
-use Rattle.foldable.specs.Decode.{undo, decode}
-use Rattle.job.specs.Limits.{maxDepth, maxRate, blockSize, diagonalsSize}
+use Rattle.foldable.specs.Decode.{undo}
+use Rattle.job.specs.Limits.{maxDepth, maxRate, diagonalsSize}
 use Rattle.residue.specs.declared.Residue.{Residue}
 use Rattle.residue.specs.Elements.{Low, elem}
-use Rattle.parameters.specs.Lent.{lent, Coding}
 
 -- the words of the longest base block: that of four base words at the largest rate
 abbrev pub longestBase : ℕ
@@ -81,21 +80,3 @@ module _ (𝓕 : PrimeField) where
     pub words : LowWords P out
     pub rest : drop (2 ^ d) out ≡ drop (2 ^ d) w
     pub column : (C : Code F) → ColumnCode d a c t w C → take (2 ^ d) out ≡ toWords 𝓕 (undo F C (λ v. elem 𝓕 x ⊛ v) d (elements 𝓕 (take (2 ^ d) w)))
-
-  -- what the work is lent: exact lengths, words below the modulus, a legal row and diagonals; k is the length of the work buffer
-  pub record DecodeInput (d : ℕ) (g t t' b : List ℕ) (k : ℕ) : Type 0 where
-    pub coding : Coding 𝓕 d g t t'
-    pub depth : d ≤ maxDepth
-    pub narrow : 2 ≤ length g
-    pub wide : length g ≤ maxRate
-    pub first : length t ≡ diagonalsSize (length g) d
-    pub second : length t' ≡ diagonalsSize (length g) d
-    pub unit : 0 < getD g 0 0
-    pub apart : (k : ℕ) → k < length t → getD t k 0 ≡ getD t' k 0 → ⊥
-    pub size : length b ≡ blockSize (length g) d
-    pub block : LowWords P b
-    pub work : k ≡ blockSize (length g) d
-
-  -- the only message that a block allows: that of its first column
-  unfoldable pub decoded : ℕ → List ℕ → List ℕ → List ℕ → List ℕ → List ℕ
-  decoded d g t t' b = toWords 𝓕 (decode F (lent 𝓕 g t t') 1 (λ v. inv (el (getD g 0 0)) ⊛ v) d (elements 𝓕 b))

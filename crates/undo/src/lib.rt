@@ -1,5 +1,4 @@
-// The only message that a block allows: its first column, with the levels of the code undone.
+// One column of a block, with the levels of the code undone.
 
 pub mod column;
 pub mod levels;
-pub mod message;

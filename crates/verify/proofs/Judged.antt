@@ -1,67 +1,34 @@
--- How the refusals are judged, what is known once none is due, and what is due. Assumes nothing.
+-- What the flags of a call promise, what is lent to its checks where nothing is refused, and what is due. Assumes nothing.
 use mathlib.Core.Path.{_≡_, refl, sym, ap, _∙_}
 use mathlib.Core.Bool.{Bool, true, _&&_}
 use mathlib.Core.List.{List, [], _∷_}
 use mathlib.Core.Option.{Option}
-use Prim.Native.Nat.{ℕ, _^_, _<_, _≤_}
+use Prim.Native.Nat.{ℕ, _<_}
 use native.Mathlib.Omega.{arith}
-use lib.Dec.{eqb, ltb}
+use lib.Dec.{ltb}
 use lib.ListN.{length}
-use borrow.Author.Tests.{eqb-true, ltb-true}
 use Rattle.algebra.specs.Tests.{all, and-both}
 use Rattle.algebra.specs.Words.{Words, PrimeField}
-use Rattle.algebra.specs.WordLists.{Low, elements}
-use Rattle.basefold.specs.Layout.{openingSize}
+use Rattle.algebra.specs.WordLists.{elements}
 use Rattle.basefold.specs.Checks.{Check, firstFailure, checks}
 use Rattle.job.specs.Outcome.{Numbers, refused, done}
-use Rattle.job.specs.OutcomeLaws.{pass-demand, demand-done, both, after-refused, after-done}
-use Rattle.job.specs.Limits.{maxDepth, maxRate, depthOk, rateOk, blockSize}
-use Rattle.job.specs.LimitLaws.{depth-most, rate-most, power-most, product-most}
+use Rattle.job.specs.OutcomeLaws.{pass-demand, both, after-refused, after-done}
+use Rattle.job.specs.Sizes.{limits, inLimits, baseSize, low}
+use Rattle.job.specs.SizeLaws.{limits-within, within, block-most, diagonals-most, size-most, low-most}
 use Rattle.residue.specs.Elements.{elem}
 use Rattle.words.specs.Scans.{allBelow}
-use Rattle.words.specs.ScanLaws.{all-below}
 use Rattle.residue.specs.declared.Residue.{Residue}
-use Rattle.parameters.specs.Lent.{lent}
 use Rattle.places.specs.Inputs.{judgeWords}
-use Rattle.parameters.specs.Parameters.{limits, inLimits, rowLengths, Sized}
-use Rattle.parameters.specs.ParameterLaws.{within, row-lengths, row-short, RowPassed, row-passed, lent-coding}
-use Rattle.layout.specs.LayoutLaws.{final-within, opening-most}
-use Rattle.walks.specs.Steps.{BlocksInput}
-use Rattle.queries.specs.Queries.{queriesOk}
+use Rattle.parameters.specs.Parameters.{Sized, RowScanned}
+use Rattle.base_parameters.specs.Parameters.{Flagged}
+use Rattle.base_parameters.specs.ParameterLaws.{row-short, flagged, within-of, lengths-of, words-of, apart-of}
+use Rattle.base_spread.specs.LentRows.{lentRows}
+use Rattle.base_verify.specs.Steps.{ChecksInput}
+use Rattle.base_verify.specs.Laws.{rows-input}
 use Rattle.queries.specs.QueryLaws.{queries-legal}
 use Rattle.verify.specs.Verifying.{openedLengths, claimInputs, claimWords, judgeOpened, judgeVerifying, verification}
-use Rattle.verify.specs.Steps.{ChecksInput}
+use Rattle.verify.specs.VerifyingLaws.{opened-lengths, Opened, verifying-exactly}
 use Rattle.verify.proofs.QueryTests.{query-places}
-
--- what the lengths are
-record OpenedLengths (d c g t t' w z r o : ℕ) : Type 0 where
-  row : rowLengths d c g t t' ≡ true
-  block : w ≡ blockSize c d
-  point : z ≡ d
-  challenges : r ≡ d
-  opening : o ≡ openingSize c 0 d
-
-opened-lengths : (d c g t t' w z r o : ℕ) → openedLengths d c g t t' w z r o ≡ true → OpenedLengths d c g t t' w z r o
-unfolding openedLengths
-opened-lengths d c g t t' w z r o e =
-    let l₁ = and-both (rowLengths d c g t t') _ e in
-    let l₂ = and-both (eqb w (blockSize c d)) _ (l₁ .1) in
-    let l₃ = and-both (eqb z d) _ (l₂ .1) in
-    let l₄ = and-both (eqb r d) _ (l₃ .1) in
-    record { row = l₁ .0; block = eqb-true _ _ (l₂ .0); point = eqb-true _ _ (l₃ .0); challenges = eqb-true _ _ (l₄ .0); opening = eqb-true _ _ (l₄ .1) }
-
--- where they are right, each word has an index
-pub opened-sized : (d c : ℕ) (g t t' w z : List ℕ) (y : ℕ) (r o : List ℕ) {l : Bool}
-    → l ≡ (inLimits d c && openedLengths d c (length g) (length t) (length t') (length w) (length z) (length r) (length o)) → Sized l g t t' w z (y ∷ []) r o
-opened-sized d c g t t' w z y r o e f =
-    let a = and-both (inLimits d c) _ (sym e ∙ f) in
-    let i = and-both (depthOk d) (rateOk c) (a .0) in
-    let deep = depth-most d (i .0) in
-    let fair = rate-most c (i .1) in
-    let 𝓛 = opened-lengths d c (length g) (length t) (length t') (length w) (length z) (length r) (length o) (a .1) in
-    let most = product-most c (2 ^ d) fair (power-most d deep) in
-    row-short d c g t t' w z (y ∷ []) r o (a .0) (𝓛 .row)
-    (omega (arith, 𝓛 .block, most)) (omega (arith, 𝓛 .point)) (omega arith) (omega (arith, 𝓛 .challenges)) (omega (arith, 𝓛 .opening, opening-most c d fair deep))
 
 module _ (𝓕 : PrimeField) where
   open PrimeField 𝓕 using (modulus as P, field as F, words as W)
@@ -80,88 +47,62 @@ module _ (𝓕 : PrimeField) where
       let one : allBelow 𝓕 (y ∷ []) ≡ true = ap (λ b. b && true) (k₄ .0) in
       (k₁ .0, sym (pass-demand _ (k₂ .0) (pass-demand _ (k₃ .0) (pass-demand _ one (pass-demand _ (k₅ .0) (pass-demand _ (k₅ .1) refl))))))
 
+  -- where the lengths are right, each word has an index and the base matrix its length; where the words are, so are those of the base matrix
+  pub opened-flagged : (d c k : ℕ) (g t t' w z : List ℕ) (y : ℕ) (r o : List ℕ) {l row apart words : Bool}
+      → l ≡ (inLimits d c k && openedLengths d c k (length g) (length t) (length t') (length w) (length z) (length r) (length o)) → RowScanned 𝓕 l g t t' row apart
+      → words ≡ (row && claimWords 𝓕 w z y r o) → Sized l g t t' w z (y ∷ []) r o × Flagged 𝓕 c k g l words
+  opened-flagged d c k g t t' w z y r o {l} {row} e 𝓢 h = (
+    λ f. let a = and-both (inLimits d c k) _ (sym e ∙ f) in
+        let p = opened-lengths d c k (length g) (length t) (length t') (length w) (length z) (length r) (length o) .0 (a .1) in
+        let 𝓛 = p .1 in
+        let 𝓦 = within d c k (a .0) in
+        row-short d c k g t t' w z (y ∷ []) r o (a .0) (p .0)
+        (omega (arith, 𝓛 .block, block-most 𝓦 d (omega arith))) (omega (arith, 𝓛 .point, 𝓦 .depth, low-most k)) (omega arith) (omega (arith, 𝓛 .challenges, 𝓦 .depth))
+        (omega (arith, 𝓛 .opening, 𝓦 .depth, size-most (𝓦 .size), diagonals-most 𝓦 d (omega arith))),
+    flagged 𝓕 d c k g t t' (λ f. opened-lengths d c k (length g) (length t) (length t') (length w) (length z) (length r) (length o) .0 (and-both (inLimits d c k) _ (sym e ∙ f) .1) .0) 𝓢
+        (λ f. and-both row _ (sym h ∙ f) .0),
+  )
+
   -- the queries are only judged within the limits
-  pub opened-within : (d c : ℕ) (g t t' w z : List ℕ) (y : ℕ) (r o : List ℕ) → judgeOpened 𝓕 d c g t t' w z y r o ≡ done tt → (d ≤ maxDepth) × (c ≤ maxRate)
-  opened-within d c g t t' w z y r o e = let i = within d c (sym (both (limits d c) e .0)) in (depth-most d (i .0), rate-most c (i .1))
+  pub opened-within : (d c k : ℕ) (g t t' w z : List ℕ) (y : ℕ) (r o : List ℕ) → judgeOpened 𝓕 d c k g t t' w z y r o ≡ done tt → inLimits d c k ≡ true
+  opened-within d c k g t t' w z y r o e = limits-within d c k (both (limits d c k) e .0)
 
   -- what is known where nothing is refused
-  module _ (d c : ℕ) (g t t' w z : List ℕ) (y : ℕ) (r us o : List ℕ) (e : judgeVerifying 𝓕 d c g t t' w z y r us o ≡ done tt) where
-    abbrev L : Bool
-    L = openedLengths d c (length g) (length t) (length t') (length w) (length z) (length r) (length o)
-
-    passed : RowPassed 𝓕 d c g t t' L (claimInputs w z y r o) × (queriesOk d c us ≡ true)
-    unfolding judgeVerifying
-    passed =
-        let q = both (judgeOpened 𝓕 d c g t t' w z y r o) e in
-        (row-passed 𝓕 d c g t t' L (claimInputs w z y r o) (q .0), queries-legal d c us (q .1) .0)
-
-    -- of the words behind g, T and T'
-    record ClaimLow : Type 0 where
-      block : Low P w
-      point : Low P z
-      value : y < P
-      challenges : Low P r
-      opening : Low P o
-
-    claim-low : ClaimLow
-    unfolding all
-    claim-low =
-        let k₁ = demand-done (allBelow 𝓕 w) _ (passed .0 .others) in
-        let k₂ = demand-done (allBelow 𝓕 z) _ (k₁ .1) in
-        let k₃ = demand-done (allBelow 𝓕 (y ∷ [])) _ (k₂ .1) in
-        let k₄ = demand-done (allBelow 𝓕 r) _ (k₃ .1) in
-        record {
-          block = all-below 𝓕 w (k₁ .0);
-          point = all-below 𝓕 z (k₂ .0);
-          value = ltb-true _ _ (and-both (ltb y P) true (k₃ .0) .0);
-          challenges = all-below 𝓕 r (k₄ .0);
-          opening = all-below 𝓕 o (demand-done (allBelow 𝓕 o) _ (k₄ .1) .0);
-        }
+  module _ (d c k : ℕ) (g t t' w z : List ℕ) (y : ℕ) (r us o : List ℕ) (e : judgeVerifying 𝓕 d c k g t t' w z y r us o ≡ done tt) where
+    opened : Opened 𝓕 d c k g t t' w z y r us o
+    opened = verifying-exactly 𝓕 d c k g t t' w z y r us o .0 e
 
     pub value-low : y < P
-    value-low = claim-low .value
+    value-low = opened .words .value
 
-    pub checks-input : (v : Residue) → v .0 ≡ y → ChecksInput 𝓕 d c g t t' w z v r us o
-    checks-input v ev =
-        let 𝓗 = passed .0 in
-        let 𝓛 = opened-lengths d c (length g) (length t) (length t') (length w) (length z) (length r) (length o) (𝓗 .lengths) in
-        let same : c ≡ length g = sym (row-lengths d c _ _ _ (𝓛 .row) .row) in
-        let blocks : BlocksInput 𝓕 d g t t' w r o = record {
-          depth = depth-most d (𝓗 .depth);
-          rate = rw same at (rate-most c (𝓗 .rate));
-          coding = lent-coding 𝓕 d c g t t' (𝓛 .row) (𝓗 .words) (𝓗 .row);
-          size = 𝓛 .block ∙ ap (λ n. blockSize n d) same;
-          block = claim-low .block;
-          challenges = 𝓛 .challenges;
-          low = claim-low .challenges;
-          opened = 𝓛 .opening ∙ ap (λ n. openingSize n 0 d) same;
-          opening = claim-low .opening;
-        } in
-        record {
-          rate = same;
-          claims = record {
-            sums = record {
-              claim = rw ev value-low;
-              challenges = blocks .challenges;
-              low = blocks .low;
-              long = omega (arith, blocks .opened, final-within (length g) 0 d);
-              opening = blocks .opening;
-            };
-            point = 𝓛 .point;
-            low = claim-low .point;
-          };
-          blocks = blocks;
-          queries = rw same at (query-places d c us (passed .1));
-        }
+    pub all-within : inLimits d c k ≡ true
+    all-within = limits-within d c k (opened .rows .within)
+
+    -- of the variables inside a base message and of the words of a base block, as they are computed, and of the claim as it is taken
+    pub checks-input : {l n : ℕ} → l ≡ low k → n ≡ baseSize c k → (v : Residue) → v .0 ≡ y → ChecksInput 𝓕 d l k n g t t' w z v r us o
+    checks-input el en v ev =
+        let 𝓡 = opened .rows in
+        let 𝓛 = opened .lengths in
+        let 𝓑 = opened .words in
+        let s = lengths-of 𝓕 𝓡 in
+        let h = words-of 𝓕 𝓡 in
+        rw (el, en)
+        (record {
+          blocks = rows-input 𝓕 (within-of 𝓕 𝓡) (s .row) (s .first) (s .second) (𝓛 .block) (𝓛 .challenges) (𝓛 .opening) (h .row) (h .first) (h .second) (𝓑 .block) (𝓑 .challenges) (𝓑 .opening) (apart-of 𝓕 𝓡 .1);
+          point = 𝓛 .point;
+          below = 𝓑 .point;
+          claim = rw ev value-low;
+          queries = query-places d (baseSize c k) us (queries-legal d (baseSize c k) us (opened .queries) .0);
+        })
 
   -- what is due: a refusal, or the first failure
-  module _ (d c : ℕ) (g t t' w z : List ℕ) (y : ℕ) (r us o : List ℕ) where
-    pub refusal-due : {n : Numbers} → refused n ≡ judgeVerifying 𝓕 d c g t t' w z y r us o → refused n ≡ verification 𝓕 d c g t t' w z y r us o
+  module _ (d c k : ℕ) (g t t' w z : List ℕ) (y : ℕ) (r us o : List ℕ) where
+    pub refusal-due : {n : Numbers} → refused n ≡ judgeVerifying 𝓕 d c k g t t' w z y r us o → refused n ≡ verification 𝓕 d c k g t t' w z y r us o
     unfolding verification
     refusal-due e = after-refused _ e
 
-    pub failure-due : {x : Option Check} (v : Residue) → v .0 ≡ y → done tt ≡ judgeVerifying 𝓕 d c g t t' w z y r us o
-        → x ≡ firstFailure (checks F 0 (lent 𝓕 g t t') (elements 𝓕 w) (elements 𝓕 z) (elem 𝓕 v) (elements 𝓕 r) us (elements 𝓕 o)) → done x ≡ verification 𝓕 d c g t t' w z y r us o
+    pub failure-due : {x : Option Check} {l n : ℕ} → l ≡ low k → n ≡ baseSize c k → (v : Residue) → v .0 ≡ y → done tt ≡ judgeVerifying 𝓕 d c k g t t' w z y r us o
+        → x ≡ firstFailure (checks F l (lentRows 𝓕 k n g t t') (elements 𝓕 w) (elements 𝓕 z) (elem 𝓕 v) (elements 𝓕 r) us (elements 𝓕 o)) → done x ≡ verification 𝓕 d c k g t t' w z y r us o
     unfolding verification
-    failure-due v ev e f =
-        after-done e (ap done (f ∙ ap (λ n. firstFailure (checks F 0 (lent 𝓕 g t t') (elements 𝓕 w) (elements 𝓕 z) (el n) (elements 𝓕 r) us (elements 𝓕 o))) ev))
+    failure-due eₗ eₙ v ev e f =
+        after-done e (ap done (f ∙ (λ i. firstFailure (checks F (eₗ i) (lentRows 𝓕 k (eₙ i) g t t') (elements 𝓕 w) (elements 𝓕 z) (el (ev i)) (elements 𝓕 r) us (elements 𝓕 o)))))

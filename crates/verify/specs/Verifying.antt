@@ -7,21 +7,21 @@ use lib.Dec.{eqb, ltb}
 use lib.ListN.{length}
 use Rattle.algebra.specs.Words.{Words, PrimeField}
 use Rattle.algebra.specs.WordLists.{elements}
-use Rattle.basefold.specs.Layout.{openingSize}
 use Rattle.basefold.specs.Checks.{Check, firstFailure, checks}
 use Rattle.job.specs.declared.Input.the-variants.{Block, Z, Y, R, Opening}
 use Rattle.job.specs.Outcome.{Outcome, done, _⨾_}
 use Rattle.job.specs.Limits.{blockSize}
 use Rattle.words.specs.Scans.{allBelow}
-use Rattle.parameters.specs.Lent.{lent}
+use Rattle.job.specs.Sizes.{baseSize, low, pointSize, openingSize}
 use Rattle.places.specs.Inputs.{Lent}
-use Rattle.parameters.specs.Parameters.{rowLengths, judgeRow}
+use Rattle.base_parameters.specs.Parameters.{rowLengths, judgeRows}
+use Rattle.base_spread.specs.LentRows.{lentRows}
 use Rattle.queries.specs.Queries.{judgeQueries}
 
--- of the lengths of g, T, T', block, z, r and opening, at depth d and rate c
-unfoldable pub openedLengths : ℕ → ℕ → ℕ → ℕ → ℕ → ℕ → ℕ → ℕ → ℕ → Bool
-openedLengths d c g t t' w z r o =
-    rowLengths d c g t t' && (eqb w (blockSize c d) && (eqb z d && (eqb r d && eqb o (openingSize c 0 d))))
+-- of the lengths of g, T, T', block, z, r and opening, at depth d, rate c and k words a base message
+unfoldable pub openedLengths : ℕ → ℕ → ℕ → ℕ → ℕ → ℕ → ℕ → ℕ → ℕ → ℕ → Bool
+openedLengths d c k g t t' w z r o =
+    rowLengths d c k g t t' && (eqb w (blockSize (baseSize c k) d) && (eqb z (pointSize d k) && (eqb r d && eqb o (openingSize d c k))))
 
 -- what is lent behind g, T and T'; the claimed value is an input of one word
 abbrev pub claimInputs : (w z : List ℕ) (y : ℕ) (r o : List ℕ) → List Lent
@@ -36,15 +36,15 @@ module _ (𝓕 : PrimeField) where
   claimWords w z y r o = allBelow 𝓕 w && (allBelow 𝓕 z && (ltb y P && (allBelow 𝓕 r && allBelow 𝓕 o)))
 
   -- the refusals, in their order: of all that is lent but the queries, then of these
-  abbrev pub judgeOpened : (d c : ℕ) (g t t' w z : List ℕ) (y : ℕ) (r o : List ℕ) → Outcome (Unit {0})
-  judgeOpened d c g t t' w z y r o =
-      judgeRow 𝓕 d c g t t' (openedLengths d c (length g) (length t) (length t') (length w) (length z) (length r) (length o)) (claimInputs w z y r o)
+  abbrev pub judgeOpened : (d c k : ℕ) (g t t' w z : List ℕ) (y : ℕ) (r o : List ℕ) → Outcome (Unit {0})
+  judgeOpened d c k g t t' w z y r o =
+      judgeRows 𝓕 d c k g t t' (openedLengths d c k (length g) (length t) (length t') (length w) (length z) (length r) (length o)) (claimInputs w z y r o)
 
-  unfoldable pub judgeVerifying : (d c : ℕ) (g t t' w z : List ℕ) (y : ℕ) (r us o : List ℕ) → Outcome (Unit {0})
-  judgeVerifying d c g t t' w z y r us o = judgeOpened d c g t t' w z y r o ⨾ judgeQueries d c us
+  unfoldable pub judgeVerifying : (d c k : ℕ) (g t t' w z : List ℕ) (y : ℕ) (r us o : List ℕ) → Outcome (Unit {0})
+  judgeVerifying d c k g t t' w z y r us o = judgeOpened d c k g t t' w z y r o ⨾ judgeQueries d (baseSize c k) us
 
   -- a refusal, or the first check that fails, or none
-  unfoldable pub verification : (d c : ℕ) (g t t' w z : List ℕ) (y : ℕ) (r us o : List ℕ) → Outcome (Option Check)
-  verification d c g t t' w z y r us o =
-      judgeVerifying d c g t t' w z y r us o
-      ⨾ done (firstFailure (checks F 0 (lent 𝓕 g t t') (elements 𝓕 w) (elements 𝓕 z) (el y) (elements 𝓕 r) us (elements 𝓕 o)))
+  unfoldable pub verification : (d c k : ℕ) (g t t' w z : List ℕ) (y : ℕ) (r us o : List ℕ) → Outcome (Option Check)
+  verification d c k g t t' w z y r us o =
+      judgeVerifying d c k g t t' w z y r us o
+      ⨾ done (firstFailure (checks F (low k) (lentRows 𝓕 k (baseSize c k) g t t') (elements 𝓕 w) (elements 𝓕 z) (el y) (elements 𝓕 r) us (elements 𝓕 o)))

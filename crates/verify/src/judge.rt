@@ -3,17 +3,19 @@ ghost use mathlib.Core.Path.{_≡_};
 ghost use mathlib.Core.Bool.{_&&_};
 ghost use Rattle.residue.specs.Chosen.{chosen};
 ghost use Rattle.job.specs.Outcome.{outcome};
-ghost use Rattle.parameters.specs.Parameters.{inLimits};
+ghost use Rattle.job.specs.Sizes.{inLimits};
 ghost use Rattle.verify.specs.Verifying.{openedLengths, claimWords, judgeOpened, judgeVerifying};
+use base_parameters::judging;
 use job::Answer;
+use job::Parameters;
+use job::sizes;
 use residue::Field;
 use residue::Residue;
 use words::scan;
 
-// Whether depth and rate are legal and g, t, t2, block, z, r and opening have the lengths that they give.
+// Whether the record is legal and g, t, t2, block, z, r and opening have the lengths that it gives.
 fn lengths_ok(
-    depth: u32,
-    rate: u32,
+    p: Parameters,
     g: usize,
     t: usize,
     t2: usize,
@@ -22,24 +24,24 @@ fn lengths_ok(
     r: usize,
     opening: usize,
 ) -> bool
-    ensures { λ b. ⌜ b ≡ (inLimits depth rate && openedLengths depth rate g t t2 block z r opening) ⌝ }
+    ensures { λ b. ⌜ b ≡ (inLimits (p .depth) (p .rate) (p .k0) && openedLengths (p .depth) (p .rate) (p .k0) g t t2 block z r opening) ⌝ }
 {
-    if !parameters::lengths_ok(depth, rate, g, t, t2) {
+    if !judging::lengths_ok(p, g, t, t2) {
         return false;
     }
-    if block != job::block_len(depth, rate) {
+    if block != sizes::block_len(p, p.depth) {
         return false;
     }
-    if z != depth as usize {
+    if z != sizes::point_len(p) {
         return false;
     }
-    if r != depth as usize {
+    if r != p.depth as usize {
         return false;
     }
-    opening == layout::opening_len(depth, rate)
+    opening == sizes::opening_len(p)
 }
 
-// Whether all words are below the modulus, where those of row and diagonals are.
+// Whether all words are below the modulus, where those of base matrix and diagonals are.
 fn words_ok(
     row: bool,
     block: &[u32],
@@ -71,8 +73,7 @@ fn words_ok(
 
 // All that is lent but the queries.
 fn judge_opened(
-    depth: u32,
-    rate: u32,
+    p: Parameters,
     g: &[u32],
     t: &[u32],
     t2: &[u32],
@@ -83,11 +84,10 @@ fn judge_opened(
     opening: &[u32],
     field: Field,
 ) -> Answer
-    ensures { λ a. ⌜ outcome a ≡ judgeOpened (chosen field) depth rate (now (g .entry)) (now (t .entry)) (now (t2 .entry)) (now (block .entry)) (now (z .entry)) y (now (r .entry)) (now (opening .entry)) ⌝ }
+    ensures { λ a. ⌜ outcome a ≡ judgeOpened (chosen field) (p .depth) (p .rate) (p .k0) (now (g .entry)) (now (t .entry)) (now (t2 .entry)) (now (block .entry)) (now (z .entry)) y (now (r .entry)) (now (opening .entry)) ⌝ }
 {
     let lengths = lengths_ok(
-        depth,
-        rate,
+        p,
         g.len(),
         t.len(),
         t2.len(),
@@ -99,9 +99,8 @@ fn judge_opened(
     let row = parameters::scan_row(lengths, g, t, t2, field);
     let words = words_ok(row.words, block, z, y, r, opening, field);
     let claim = [y];
-    parameters::judge(
-        depth,
-        rate,
+    judging::judge(
+        p,
         g,
         t,
         t2,
@@ -118,8 +117,7 @@ fn judge_opened(
 }
 
 pub fn judge(
-    depth: u32,
-    rate: u32,
+    p: Parameters,
     g: &[u32],
     t: &[u32],
     t2: &[u32],
@@ -131,11 +129,11 @@ pub fn judge(
     opening: &[u32],
     field: Field,
 ) -> Answer
-    ensures { λ a. ⌜ outcome a ≡ judgeVerifying (chosen field) depth rate (now (g .entry)) (now (t .entry)) (now (t2 .entry)) (now (block .entry)) (now (z .entry)) y (now (r .entry)) (now (queries .entry)) (now (opening .entry)) ⌝ }
+    ensures { λ a. ⌜ outcome a ≡ judgeVerifying (chosen field) (p .depth) (p .rate) (p .k0) (now (g .entry)) (now (t .entry)) (now (t2 .entry)) (now (block .entry)) (now (z .entry)) y (now (r .entry)) (now (queries .entry)) (now (opening .entry)) ⌝ }
 {
-    let opened = judge_opened(depth, rate, g, t, t2, block, z, y, r, opening, field);
+    let opened = judge_opened(p, g, t, t2, block, z, y, r, opening, field);
     if let Answer::Refused(n) = opened {
         return Answer::Refused(n);
     }
-    queries::judge(depth, rate, queries)
+    queries::judge(p, queries)
 }

@@ -1,4 +1,2 @@
 -- Laws that belong to no one function.
-pub mod ReadBlocks
-pub mod Bases
 pub mod Folded

@@ -1,4 +1,4 @@
--- What base and fold checks are lent. Definitions only. Assumes nothing.
+-- What fold checks are lent, and which places queries may have. Definitions only. Assumes nothing.
 use mathlib.Core.Path.{_≡_}
 use mathlib.Core.Bool.{Bool}
 use mathlib.Core.List.{List}
@@ -9,12 +9,10 @@ use Rattle.algebra.specs.Field.{Field}
 use Rattle.algebra.specs.Words.{Words, PrimeField}
 use Rattle.algebra.specs.WordLists.{Low as LowWords}
 use Rattle.foldable.specs.Code.{line}
-use Rattle.basefold.specs.Layout.{openingSize}
-use Rattle.basefold.specs.Checks.{Check, baseCheck, same}
-use Rattle.job.specs.Limits.{maxDepth, maxRate, blockSize}
+use Rattle.basefold.specs.Checks.{same}
+use Rattle.job.specs.Limits.{blockSize}
 use Rattle.residue.specs.Elements.{Low, elem}
 use Rattle.residue.specs.declared.Residue.{Residue}
-use Rattle.parameters.specs.Lent.{Coding}
 
 -- u is a place of the block below level i, if there is one
 abbrev pub PlaceBelow : ℕ → ℕ → ℕ → Type 0
@@ -27,23 +25,10 @@ pub record QueryPlaces (c d : ℕ) (us : List ℕ) : Type 0 where
   pub start : (k : ℕ) → k < length us → PlaceBelow c d (getD us k 0)
 
 module _ (𝓕 : PrimeField) where
-  infixl 70 _⊠_
   open PrimeField 𝓕 using (modulus as P, field as F, words as W)
   open Field F using (ring as K)
-  open Ring K using (R as Element, _*_ as _⊠_)
+  open Ring K using (R as Element)
   open Words W using (el)
-
-  -- v, the base row and block 0
-  pub record BaseInput (v : Residue) (g b : List ℕ) : Type 0 where
-    pub value : Low 𝓕 v
-    pub row : LowWords P g
-    pub rate : length g ≤ maxRate
-    pub size : length b ≡ length g
-    pub block : LowWords P b
-
-  -- base j, by the words
-  abbrev pub baseAt : Element → List ℕ → List ℕ → ℕ → Check × Bool
-  baseAt v g b j = (baseCheck j, same F (el (getD b j 0)) (v ⊠ el (getD g j 0)))
 
   -- a challenge, two points of a line, and what its value at the challenge is compared with
   pub record LinePoints (a t t' w₀ w₁ b : Residue) : Type 0 where
@@ -69,15 +54,3 @@ module _ (𝓕 : PrimeField) where
   -- the line through the two words of w at a goes through the word of b
   abbrev pub lineAt : (a t t' : Element) (u : ℕ) (w b : List ℕ) → Bool
   lineAt a t t' u w b = same F (line F a t t' (el (getD w u 0)) (el (getD w (length b + u) 0))) (el (getD b u 0))
-
-  -- all that base and fold checks read beside the queries: row, diagonals, commitment, challenges and opening, of exact lengths
-  pub record BlocksInput (d : ℕ) (g t t' w r o : List ℕ) : Type 0 where
-    pub depth : d ≤ maxDepth
-    pub rate : length g ≤ maxRate
-    pub coding : Coding 𝓕 d g t t'
-    pub size : length w ≡ blockSize (length g) d
-    pub block : LowWords P w
-    pub challenges : length r ≡ d
-    pub low : LowWords P r
-    pub opened : length o ≡ openingSize (length g) 0 d
-    pub opening : LowWords P o

@@ -3,7 +3,7 @@
 /// The number, and the places that it names, else zeros.
 #[derive(Clone, Copy, PartialEq, Eq, Debug)]
 pub struct Answer {
-    /// 0 is done or accepted, 1 to 9, 11 and 12 a refusal, 20 to 23 a failed check.
+    /// 0 is done or accepted, 1 to 9 and 11 to 13 a refusal, 20 to 23 a failed check.
     pub number: u32,
     /// 4, 5 and 6: the index. 20: i. 22: j. 23: the query's position.
     pub first: u32,
@@ -70,6 +70,8 @@ pub enum Refusal {
     Repeated,
     /// A rate that is no power of two, where filling needs one.
     NoPowerOfTwo,
+    /// A number of words of a base message other than one, which is all that plain Rust has.
+    BaseWords,
 }
 
 impl From<Refusal> for Answer {
@@ -86,6 +88,7 @@ impl From<Refusal> for Answer {
             Refusal::Clearance => Answer::at(9, 0, 0),
             Refusal::Repeated => Answer::at(11, 0, 0),
             Refusal::NoPowerOfTwo => Answer::at(12, 0, 0),
+            Refusal::BaseWords => Answer::at(13, 0, 0),
         }
     }
 }
@@ -121,14 +124,16 @@ impl<E: Into<Answer>> From<Result<(), E>> for Answer {
     }
 }
 
-/// Depth, rate, base row and diagonals, as a call lends them.
+/// Record, base rows and diagonals, as a call lends them.
 #[derive(Clone, Copy, Debug)]
 pub struct Code<'a> {
     /// The depth.
     pub depth: u32,
     /// The rate.
     pub rate: u32,
-    /// The base row.
+    /// The words of a base message.
+    pub k0: u32,
+    /// The base rows.
     pub g: &'a [u32],
     /// The first diagonal of every level.
     pub t: &'a [u32],

@@ -50,9 +50,9 @@ pub fn call<J: Jobs>(job: Job, inputs: &Inputs, buffers: &mut Buffers) -> Answer
     let work = &mut buffers.work;
     let value = &mut buffers.value;
     match job {
-        Job::ToCoefficients => J::table_to_coefficients(&i.clearances, result),
-        Job::ToTable => J::coefficients_to_table(&i.message, &mut buffers.table, work),
-        Job::Evaluate => J::evaluate(i.depth, &i.message, &i.z, value),
+        Job::ToCoefficients => J::table_to_coefficients(i.k0, &i.clearances, result),
+        Job::ToTable => J::coefficients_to_table(i.k0, &i.message, &mut buffers.table, work),
+        Job::Evaluate => J::evaluate(i.depth, i.k0, &i.message, &i.z, value),
         Job::Encode => J::encode(&code(i), &i.message, result),
         Job::Decode => J::decode(&code(i), &i.block, result, work),
         Job::Fold => J::fold(&folding(i), result),
@@ -72,6 +72,7 @@ fn code(inputs: &Inputs) -> Code<'_> {
     Code {
         depth: inputs.depth,
         rate: inputs.rate,
+        k0: inputs.k0,
         g: &inputs.g,
         t: &inputs.t,
         t2: &inputs.t2,
@@ -82,6 +83,7 @@ fn folding(inputs: &Inputs) -> Folding<'_> {
     Folding {
         level: inputs.depth,
         rate: inputs.rate,
+        k0: inputs.k0,
         t: &inputs.fold_t,
         t2: &inputs.fold_t2,
         block: &inputs.block,

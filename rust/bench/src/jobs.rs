@@ -18,11 +18,16 @@ pub struct Outputs<'a> {
 /// The eight jobs over slices, with the answers of `include/tvarchula.h`.
 pub trait Jobs {
     /// Clearances to coefficients.
-    fn table_to_coefficients(clearances: &[i32], message: &mut [u32]) -> Answer;
+    fn table_to_coefficients(k0: u32, clearances: &[i32], message: &mut [u32]) -> Answer;
     /// Coefficients to clearances.
-    fn coefficients_to_table(message: &[u32], table: &mut [i32], work: &mut [u32]) -> Answer;
+    fn coefficients_to_table(
+        k0: u32,
+        message: &[u32],
+        table: &mut [i32],
+        work: &mut [u32],
+    ) -> Answer;
     /// The polynomial's value at a point.
-    fn evaluate(depth: u32, message: &[u32], z: &[u32], value: &mut u32) -> Answer;
+    fn evaluate(depth: u32, k0: u32, message: &[u32], z: &[u32], value: &mut u32) -> Answer;
     /// The codeword of a message.
     fn encode(code: &Code<'_>, message: &[u32], block: &mut [u32]) -> Answer;
     /// The message of a codeword.
@@ -41,21 +46,26 @@ pub trait Jobs {
     fn verify_opening(code: &Code<'_>, lent: &Opened<'_>) -> Answer;
 }
 
-/// Plain Rust, with a field and the reduction of its products, and a way to invert the differences of diagonals.
+/// Plain Rust with base messages of one word, with a field and the reduction of its products, and a way to invert the differences of diagonals.
 #[derive(Clone, Copy, Debug)]
 pub struct Plain<R = Mersenne, I = OneChain>(PhantomData<(R, I)>);
 
 impl<R: Reduce, I: Invert> Jobs for Plain<R, I> {
-    fn table_to_coefficients(clearances: &[i32], message: &mut [u32]) -> Answer {
-        plain::table_to_coefficients::<R>(clearances, message).into()
+    fn table_to_coefficients(k0: u32, clearances: &[i32], message: &mut [u32]) -> Answer {
+        plain::table_to_coefficients::<R>(k0, clearances, message).into()
     }
 
-    fn coefficients_to_table(message: &[u32], table: &mut [i32], work: &mut [u32]) -> Answer {
-        plain::coefficients_to_table::<R>(message, table, work).into()
+    fn coefficients_to_table(
+        k0: u32,
+        message: &[u32],
+        table: &mut [i32],
+        work: &mut [u32],
+    ) -> Answer {
+        plain::coefficients_to_table::<R>(k0, message, table, work).into()
     }
 
-    fn evaluate(depth: u32, message: &[u32], z: &[u32], value: &mut u32) -> Answer {
-        keep(plain::evaluate::<R>(depth, message, z), value)
+    fn evaluate(depth: u32, k0: u32, message: &[u32], z: &[u32], value: &mut u32) -> Answer {
+        keep(plain::evaluate::<R>(depth, k0, message, z), value)
     }
 
     fn encode(code: &Code<'_>, message: &[u32], block: &mut [u32]) -> Answer {

@@ -13,7 +13,9 @@ pub struct Inputs {
     pub depth: u32,
     /// The rate.
     pub rate: u32,
-    /// The base row.
+    /// The words of a base message.
+    pub k0: u32,
+    /// The base rows.
     pub g: Vec<u32>,
     /// The first diagonal of every level.
     pub t: Vec<u32>,

@@ -1,7 +1,7 @@
 //! Seeded inputs: a run repeats exactly.
 
 use crate::call::{call, Job};
-use crate::jobs::Plain;
+use crate::jobs::{Jobs, Plain};
 use crate::lent::{Buffers, Inputs};
 use crate::plain::Reduce;
 use crate::sizes::Sizes;
@@ -48,13 +48,19 @@ impl Inputs {
     /// Legal inputs of all jobs over one field that belong together: a table, its coefficients, their codeword,
     /// and an opening that is accepted. Depth and rate are legal.
     pub fn drawn<R: Reduce>(sizes: Sizes, queries: usize) -> Inputs {
-        let mut inputs = random::<R>(sizes);
+        Inputs::with_words::<R, Plain<R>>(sizes, 1, queries)
+    }
+
+    /// The same with base messages of so many words, as this side writes what follows from other words: plain
+    /// Rust has base messages of one word only.
+    pub fn with_words<R: Reduce, J: Jobs>(sizes: Sizes, k0: usize, queries: usize) -> Inputs {
+        let mut inputs = random::<R>(sizes, k0);
         inputs.draw_queries(queries);
-        inputs.message = written::<R>(Job::ToCoefficients, &inputs).result;
-        inputs.block = vec![0; sizes.block(sizes.depth)];
-        inputs.block = written::<R>(Job::Encode, &inputs).result;
-        inputs.opening = vec![0; sizes.opening()];
-        let Buffers { result, value, .. } = written::<R>(Job::Write, &inputs);
+        inputs.message = written::<J>(Job::ToCoefficients, &inputs).result;
+        inputs.block = vec![0; k0 * sizes.block(sizes.depth)];
+        inputs.block = written::<J>(Job::Encode, &inputs).result;
+        inputs.opening = vec![0; 3 * sizes.depth + k0 + k0 * sizes.diagonals()];
+        let Buffers { result, value, .. } = written::<J>(Job::Write, &inputs);
         (inputs.opening, inputs.y) = (result, value);
         inputs
     }
@@ -75,10 +81,12 @@ impl Inputs {
     }
 }
 
-/// What does not follow from something else.
-fn random<R: Reduce>(sizes: Sizes) -> Inputs {
+/// What does not follow from something else. A base block has k0 times the words that it has for one word, and so
+/// has everything that is made of base blocks. Of several base rows the first columns have an inverse: else
+/// encoding would be refused.
+fn random<R: Reduce>(sizes: Sizes, k0: usize) -> Inputs {
     let mut rng = Rng((sizes.depth * 100 + sizes.rate) as u64);
-    let t = rng.words::<R>(sizes.diagonals());
+    let t = rng.words::<R>(k0 * sizes.diagonals());
     // Never 0 and never p, so the two diagonals differ in every place.
     let step = |t: &u32| (*t + 1 + rng.below(R::P as usize - 1) as u32) % R::P;
     let t2: Vec<u32> = t.iter().map(step).collect();
@@ -86,14 +94,15 @@ fn random<R: Reduce>(sizes: Sizes) -> Inputs {
         - if sizes.depth == 0 {
             0
         } else {
-            sizes.block(sizes.depth - 1)
+            k0 * sizes.block(sizes.depth - 1)
         };
     Inputs {
         p: R::P,
         depth: sizes.depth as u32,
         rate: sizes.rate as u32,
+        k0: k0 as u32,
         g: rng
-            .words::<R>(sizes.rate)
+            .words::<R>(k0 * k0 * sizes.rate)
             .into_iter()
             .map(|w| w.max(1))
             .collect(),
@@ -102,10 +111,13 @@ fn random<R: Reduce>(sizes: Sizes) -> Inputs {
         t,
         t2,
         challenge: rng.word::<R>(),
-        clearances: (0..sizes.message()).map(|_| rng.clearance::<R>()).collect(),
+        clearances: (0..k0 * sizes.message())
+            .map(|_| rng.clearance::<R>())
+            .collect(),
         message: Vec::new(),
         block: Vec::new(),
-        z: rng.words::<R>(sizes.depth),
+        // One word more for two words of a base message, two for four.
+        z: rng.words::<R>(sizes.depth + k0 / 2),
         y: 0,
         r: rng.words::<R>(sizes.depth),
         queries: Vec::new(),
@@ -115,10 +127,10 @@ fn random<R: Reduce>(sizes: Sizes) -> Inputs {
     }
 }
 
-/// What plain Rust writes. It is the library's word too: the tests compare both.
-fn written<R: Reduce>(job: Job, inputs: &Inputs) -> Buffers {
+/// What a side writes. Of one word plain Rust and the library write the same: the tests compare both.
+fn written<J: Jobs>(job: Job, inputs: &Inputs) -> Buffers {
     let mut buffers = Buffers::of(job, inputs);
-    let answer = call::<Plain<R>>(job, inputs, &mut buffers);
+    let answer = call::<J>(job, inputs, &mut buffers);
     assert_eq!(answer.number, 0, "drawn inputs are legal");
     buffers
 }

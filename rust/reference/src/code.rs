@@ -1,66 +1,8 @@
-//! The code with one base row as lent, any code as judged, and its generator matrix.
+//! A code that was judged, and its generator matrix.
 
-use crate::field::Field;
-use crate::general::{GeneralCode, GeneralLevel};
 use crate::layout::Layout;
 use crate::linear::Matrix;
-use crate::parameters::Parameters;
 use crate::residue::Residue;
-
-/// The code as a call lends it that has base messages of one word: raw numbers and words.
-#[derive(Clone, Copy, Debug)]
-pub struct LentCode<'a> {
-    /// Field.
-    pub field: Field,
-    /// Depth.
-    pub depth: u32,
-    /// Rate.
-    pub rate: u32,
-    /// Base row.
-    pub g: &'a [u32],
-    /// T, all levels.
-    pub t: &'a [u32],
-    /// T', all levels.
-    pub t2: &'a [u32],
-}
-
-/// One level of the diagonals, as a call of folding lends it, with base messages of one word.
-#[derive(Clone, Copy, Debug)]
-pub struct LentLevel<'a> {
-    /// Field.
-    pub field: Field,
-    /// The upper level: the diagonals are those of the one below.
-    pub level: u32,
-    /// Rate.
-    pub rate: u32,
-    /// T of that level.
-    pub t: &'a [u32],
-    /// T' of that level.
-    pub t2: &'a [u32],
-}
-
-impl<'a> From<LentCode<'a>> for GeneralCode<'a> {
-    fn from(lent: LentCode<'a>) -> GeneralCode<'a> {
-        GeneralCode {
-            field: lent.field,
-            parameters: Parameters::one(lent.depth, lent.rate),
-            g: lent.g,
-            t: lent.t,
-            t2: lent.t2,
-        }
-    }
-}
-
-impl<'a> From<LentLevel<'a>> for GeneralLevel<'a> {
-    fn from(lent: LentLevel<'a>) -> GeneralLevel<'a> {
-        GeneralLevel {
-            field: lent.field,
-            parameters: Parameters::one(lent.level, lent.rate),
-            t: lent.t,
-            t2: lent.t2,
-        }
-    }
-}
 
 /// A legal code.
 #[derive(Clone, Debug)]
@@ -128,18 +70,13 @@ pub(crate) mod tests {
     use crate::answer::Input;
     use crate::field::FIRST;
     use crate::judge;
+    use crate::lent::LentCode;
     use crate::sample::{Rng, Style};
-    use crate::sizes::Sizes;
 
     /// A legal code of these sizes.
-    pub fn sample_code<const P: u32>(
-        rng: &mut Rng,
-        sizes: impl Into<Layout>,
-        style: Style,
-    ) -> Code<P> {
-        let layout = sizes.into();
-        let [g, t, t2] = rng.general_code(&layout, style);
-        let lent = GeneralCode {
+    pub fn sample_code<const P: u32>(rng: &mut Rng, layout: Layout, style: Style) -> Code<P> {
+        let [g, t, t2] = rng.code(&layout, style);
+        let lent = LentCode {
             field: rng.field(),
             parameters: layout.parameters(),
             g: &g,
@@ -156,7 +93,7 @@ pub(crate) mod tests {
     #[test]
     fn matrix_of_the_order() {
         let code = Code {
-            sizes: Sizes { depth: 1, rate: 2 }.into(),
+            sizes: Layout::one(1, 2),
             g: residues(&[1, 1]),
             t: residues(&[2, 3]),
             t2: residues(&[2_147_483_645, 2_147_483_644]),

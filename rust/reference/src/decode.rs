@@ -1,10 +1,10 @@
 //! Decoding.
 
 use crate::answer::{Answer, Input, Refusal};
-use crate::code::{Code, LentCode};
+use crate::code::Code;
 use crate::encode::codeword;
-use crate::general::GeneralCode;
 use crate::judge;
+use crate::lent::LentCode;
 use crate::linear::{inverse, row_times, Matrix};
 use crate::over;
 use crate::residue::Residue;
@@ -55,23 +55,13 @@ fn undo<const P: u32>(
     halves.concat()
 }
 
-/// The decoding job for base messages of one word. Refusals 1 to 6 and 8.
-pub fn decode(lent: LentCode, block: &[u32], message: &mut [u32], work: &mut [u32]) -> Answer {
-    decode_with(lent.into(), block, message, work)
-}
-
 /// The decoding job. Refusals 1, 2, 13, 3 to 6 and 8. The work buffer is zero after success and after 8.
-pub fn decode_with(
-    lent: GeneralCode,
-    block: &[u32],
-    message: &mut [u32],
-    work: &mut [u32],
-) -> Answer {
+pub fn decode(lent: LentCode, block: &[u32], message: &mut [u32], work: &mut [u32]) -> Answer {
     over!(lent.field, P => try_decode::<P>(lent, block, message, work)).into()
 }
 
 fn try_decode<const P: u32>(
-    lent: GeneralCode,
+    lent: LentCode,
     block: &[u32],
     message: &mut [u32],
     work: &mut [u32],
@@ -99,6 +89,7 @@ mod tests {
     use crate::field::Field;
     use crate::layout::Layout;
     use crate::over_both;
+    use crate::parameters::Parameters;
     use crate::sample::{Rng, Style, STYLES};
 
     over_both!(codewords_and_every_single_word_moved any_block work_and_result);
@@ -185,8 +176,7 @@ mod tests {
     fn work_and_result<const P: u32>() {
         let lent = LentCode {
             field: Field::of(P),
-            depth: 0,
-            rate: 2,
+            parameters: Parameters::one(0, 2),
             g: &[1, 2],
             t: &[],
             t2: &[],

@@ -1,9 +1,9 @@
 //! Encoding.
 
 use crate::answer::{Answer, Input, Refusal};
-use crate::code::{times, Code, LentCode};
-use crate::general::GeneralCode;
+use crate::code::{times, Code};
 use crate::judge;
+use crate::lent::LentCode;
 use crate::linear::row_times;
 use crate::over;
 use crate::residue::Residue;
@@ -50,18 +50,13 @@ pub fn codeword<const P: u32>(
     }
 }
 
-/// The encoding job for base messages of one word. Refusals 1 to 6.
-pub fn encode(lent: LentCode, message: &[u32], block: &mut [u32]) -> Answer {
-    encode_with(lent.into(), message, block)
-}
-
 /// The encoding job. Refusals 1, 2, 13, 3 to 6.
-pub fn encode_with(lent: GeneralCode, message: &[u32], block: &mut [u32]) -> Answer {
+pub fn encode(lent: LentCode, message: &[u32], block: &mut [u32]) -> Answer {
     over!(lent.field, P => try_encode::<P>(lent, message, block)).into()
 }
 
 fn try_encode<const P: u32>(
-    lent: GeneralCode,
+    lent: LentCode,
     message: &[u32],
     block: &mut [u32],
 ) -> Result<(), Refusal> {
@@ -86,7 +81,6 @@ mod tests {
     use crate::layout::Layout;
     use crate::over_both;
     use crate::sample::{Rng, STYLES};
-    use crate::sizes::Sizes;
 
     over_both!(both_forms_agree a_call_of_smaller_depth_uses_the_lower_levels);
 
@@ -109,13 +103,13 @@ mod tests {
 
     fn a_call_of_smaller_depth_uses_the_lower_levels<const P: u32>() {
         let mut rng = Rng::new(Field::of(P), 8);
-        let sizes = Sizes { depth: 5, rate: 3 };
+        let sizes = Layout::one(5, 3);
         let code = sample_code::<P>(&mut rng, sizes, STYLES[0]);
         for depth in 0..5 {
-            let lower = Sizes { depth, ..sizes };
+            let lower = Layout { depth, ..sizes };
             let message = rng.residues(1 << depth, STYLES[0]);
             let small = Code {
-                sizes: lower.into(),
+                sizes: lower,
                 g: code.g.clone(),
                 t: code.t[..lower.diagonals()].to_vec(),
                 t2: code.t2[..lower.diagonals()].to_vec(),

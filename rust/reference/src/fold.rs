@@ -1,10 +1,9 @@
 //! Folding by one level.
 
 use crate::answer::{Answer, Input, Refusal};
-use crate::code::LentLevel;
-use crate::general::GeneralLevel;
 use crate::judge;
 use crate::layout::Layout;
+use crate::lent::LentLevel;
 use crate::over;
 use crate::residue::Residue;
 
@@ -34,18 +33,13 @@ pub fn fold_block<const P: u32>(
     (0..t.len()).map(place).collect()
 }
 
-/// The folding job for base messages of one word. Refusals 1, 2, 3, 4, 6.
-pub fn fold(lent: LentLevel, block: &[u32], challenge: u32, out: &mut [u32]) -> Answer {
-    fold_with(lent.into(), block, challenge, out)
-}
-
 /// The folding job. Refusals 1, 2, 13, 3, 4, 6.
-pub fn fold_with(lent: GeneralLevel, block: &[u32], challenge: u32, out: &mut [u32]) -> Answer {
+pub fn fold(lent: LentLevel, block: &[u32], challenge: u32, out: &mut [u32]) -> Answer {
     over!(lent.field, P => try_fold::<P>(lent, block, challenge, out)).into()
 }
 
 fn try_fold<const P: u32>(
-    lent: GeneralLevel,
+    lent: LentLevel,
     block: &[u32],
     challenge: u32,
     out: &mut [u32],
@@ -77,6 +71,7 @@ mod tests {
     use crate::encode::by_matrix;
     use crate::field::Field;
     use crate::over_both;
+    use crate::parameters::Parameters;
     use crate::sample::{Rng, Style, STYLES};
 
     over_both!(the_line_meets_both_places the_fold_of_a_codeword_encodes_the_folded_message refusals);
@@ -130,8 +125,7 @@ mod tests {
             let mut result = vec![7; out];
             let lent = LentLevel {
                 field: Field::of(P),
-                level,
-                rate,
+                parameters: Parameters::one(level, rate),
                 t,
                 t2,
             };

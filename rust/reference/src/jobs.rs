@@ -1,8 +1,9 @@
 //! The jobs as traits, so that the same comparison runs on any two implementations of them.
 
 use crate::answer::{Answer, Reading};
-use crate::code::{LentCode, LentLevel};
 use crate::field::Field;
+use crate::lent::{LentCode, LentLevel};
+use crate::parameters::Parameters;
 use crate::{clearance, decode, encode, fill, fold, opening, polynomial, table, verify};
 
 /// Readings, tables and evaluation.
@@ -10,16 +11,28 @@ pub trait GroundJobs {
     /// Reads one word as a clearance.
     fn read_clearance(field: Field, word: u32) -> Reading;
     /// Clearance table to coefficients.
-    fn table_to_coefficients(field: Field, clearances: &[i32], message: &mut [u32]) -> Answer;
+    fn table_to_coefficients(
+        field: Field,
+        parameters: Parameters,
+        clearances: &[i32],
+        message: &mut [u32],
+    ) -> Answer;
     /// Coefficients to clearance table.
     fn coefficients_to_table(
         field: Field,
+        parameters: Parameters,
         message: &[u32],
         clearances: &mut [i32],
         work: &mut [u32],
     ) -> Answer;
     /// The polynomial's value at a point.
-    fn evaluate(field: Field, depth: u32, message: &[u32], z: &[u32], value: &mut u32) -> Answer;
+    fn evaluate(
+        field: Field,
+        parameters: Parameters,
+        message: &[u32],
+        z: &[u32],
+        value: &mut u32,
+    ) -> Answer;
 }
 
 /// Encoding, decoding, folding, filling.
@@ -31,7 +44,7 @@ pub trait CodeJobs {
     /// The fold of a block by one level.
     fn fold(lent: LentLevel, block: &[u32], challenge: u32, out: &mut [u32]) -> Answer;
     /// Base row and diagonals of the second field, by rule.
-    fn fill_roots(depth: u32, rate: u32, g: &mut [u32], t: &mut [u32], t2: &mut [u32]) -> Answer;
+    fn fill_roots(parameters: Parameters, g: &mut [u32], t: &mut [u32], t2: &mut [u32]) -> Answer;
 }
 
 /// Writing and verifying openings.
@@ -66,19 +79,31 @@ impl GroundJobs for Reference {
     fn read_clearance(field: Field, word: u32) -> Reading {
         clearance::read_clearance(field, word)
     }
-    fn table_to_coefficients(field: Field, clearances: &[i32], message: &mut [u32]) -> Answer {
-        table::table_to_coefficients(field, clearances, message)
+    fn table_to_coefficients(
+        field: Field,
+        parameters: Parameters,
+        clearances: &[i32],
+        message: &mut [u32],
+    ) -> Answer {
+        table::table_to_coefficients(field, parameters, clearances, message)
     }
     fn coefficients_to_table(
         field: Field,
+        parameters: Parameters,
         message: &[u32],
         clearances: &mut [i32],
         work: &mut [u32],
     ) -> Answer {
-        table::coefficients_to_table(field, message, clearances, work)
+        table::coefficients_to_table(field, parameters, message, clearances, work)
     }
-    fn evaluate(field: Field, depth: u32, message: &[u32], z: &[u32], value: &mut u32) -> Answer {
-        polynomial::evaluate(field, depth, message, z, value)
+    fn evaluate(
+        field: Field,
+        parameters: Parameters,
+        message: &[u32],
+        z: &[u32],
+        value: &mut u32,
+    ) -> Answer {
+        polynomial::evaluate(field, parameters, message, z, value)
     }
 }
 
@@ -92,8 +117,8 @@ impl CodeJobs for Reference {
     fn fold(lent: LentLevel, block: &[u32], challenge: u32, out: &mut [u32]) -> Answer {
         fold::fold(lent, block, challenge, out)
     }
-    fn fill_roots(depth: u32, rate: u32, g: &mut [u32], t: &mut [u32], t2: &mut [u32]) -> Answer {
-        fill::fill_roots(depth, rate, g, t, t2)
+    fn fill_roots(parameters: Parameters, g: &mut [u32], t: &mut [u32], t2: &mut [u32]) -> Answer {
+        fill::fill_roots(parameters, g, t, t2)
     }
 }
 

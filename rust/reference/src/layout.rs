@@ -16,6 +16,11 @@ pub struct Layout {
 }
 
 impl Layout {
+    /// Base messages of one word.
+    pub const fn one(depth: usize, rate: usize) -> Layout {
+        Layout { depth, rate, k0: 1 }
+    }
+
     /// The record that lends these sizes.
     pub fn parameters(&self) -> Parameters {
         Parameters {
@@ -125,7 +130,7 @@ mod tests {
     #[test]
     fn levels_and_blocks_leave_no_gap() {
         for k0 in [1, 2, 4] {
-            for depth in 0..=18 {
+            for depth in 0..=20 {
                 for rate in 2..=16 {
                     no_gap(Layout { depth, rate, k0 });
                 }

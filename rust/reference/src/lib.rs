@@ -7,8 +7,7 @@
 //! tests hold the two forms against each other.
 //!
 //! Every job takes its lent slices, results and work included, and returns an [`Answer`], so that
-//! a caller can compare all buffers after every call, refused or not. A job that ends in `_with` is
-//! lent the parameter record; the one without it is the same job for base messages of one word.
+//! a caller can compare all buffers after every call, refused or not.
 
 #![forbid(unsafe_code)]
 
@@ -20,10 +19,10 @@ pub mod encode;
 pub mod field;
 pub mod fill;
 pub mod fold;
-pub mod general;
 pub mod jobs;
 pub mod judge;
 pub mod layout;
+pub mod lent;
 pub mod linear;
 pub mod numbers;
 pub mod opening;
@@ -37,11 +36,10 @@ pub mod table;
 pub mod verify;
 
 pub use answer::{Answer, Input, Reading, Refusal};
-pub use code::{LentCode, LentLevel};
 pub use field::Field;
-pub use general::{GeneralCode, GeneralLevel};
 pub use jobs::{CodeJobs, GroundJobs, OpeningJobs, Reference};
 pub use layout::Layout;
+pub use lent::{LentCode, LentLevel};
 pub use parameters::Parameters;
 pub use residue::Residue;
 

@@ -1,36 +1,43 @@
 //! The order's numbers to try, each as it is printed there, as checks on any implementation of the
 //! jobs. They panic where a number is not met.
 
-pub mod blocks;
+mod blocks;
 mod deep;
 mod places;
 mod queries;
 mod second;
 
 use crate::answer::{Answer, Reading};
-use crate::code::{LentCode, LentLevel};
 use crate::field::Field;
 use crate::jobs::{CodeJobs, GroundJobs, OpeningJobs};
+use crate::lent::{LentCode, LentLevel};
+use crate::parameters::Parameters;
 
 const FIELD: Field = Field::First;
 const P: u32 = 2_147_483_647;
 const CODE: LentCode = LentCode {
     field: FIELD,
-    depth: 1,
-    rate: 2,
+    parameters: Parameters::one(1, 2),
     g: &[1, 1],
     t: &[2, 3],
     t2: &[2_147_483_645, 2_147_483_644],
 };
 const DEPTH_0: LentCode = LentCode {
     field: FIELD,
-    depth: 0,
+    parameters: Parameters::one(0, 2),
     t: &[],
     t2: &[],
     ..CODE
 };
+/// Depth and rate are of no matter to tables, nor is the rate to evaluation.
+const ANY: Parameters = Parameters::one(u32::MAX, u32::MAX);
 const BLOCK: [u32; 4] = [19, 26, 2_147_483_638, 2_147_483_631];
 const OPENING: [u32; 6] = [2_147_483_637, 36, 152, 33, 33, 33];
+
+/// A record for evaluation.
+fn at(depth: u32) -> Parameters {
+    Parameters { depth, ..ANY }
+}
 
 fn answer(number: u32, first: u32, second: u32) -> Answer {
     Answer {
@@ -44,8 +51,7 @@ fn answer(number: u32, first: u32, second: u32) -> Answer {
 fn level<'a>(field: Field, level: u32, t: &'a [u32], t2: &'a [u32]) -> LentLevel<'a> {
     LentLevel {
         field,
-        level,
-        rate: 2,
+        parameters: Parameters::one(level, 2),
         t,
         t2,
     }
@@ -63,7 +69,7 @@ fn read(kind: u32, amount: u32) -> Reading {
 /// Clearances and tables.
 pub fn ground<J: GroundJobs>() {
     let mut one = [77];
-    let done = J::table_to_coefficients(FIELD, &[-1], &mut one);
+    let done = J::table_to_coefficients(FIELD, ANY, &[-1], &mut one);
     assert_eq!((done, one), (Answer::DONE, [2_147_483_646]));
     for (word, due) in [
         (0, read(3, 0)),
@@ -75,48 +81,49 @@ pub fn ground<J: GroundJobs>() {
         assert_eq!(J::read_clearance(FIELD, word), due, "word {word}");
     }
     let (mut table, mut work) = ([77], [77]);
-    let done = J::coefficients_to_table(FIELD, &[1_073_741_824], &mut table, &mut work);
+    let done = J::coefficients_to_table(FIELD, ANY, &[1_073_741_824], &mut table, &mut work);
     assert_eq!((done, table, work), (Answer::DONE, [-1_073_741_823], [0]));
     let mut one = [77];
-    let refused = J::table_to_coefficients(FIELD, &[1_073_741_824], &mut one);
+    let refused = J::table_to_coefficients(FIELD, ANY, &[1_073_741_824], &mut one);
     assert_eq!((refused, one), (answer(9, 0, 0), [77]));
 
     let mut message = [77; 4];
-    let done = J::table_to_coefficients(FIELD, &[3, 5, 4, 10], &mut message);
+    let done = J::table_to_coefficients(FIELD, ANY, &[3, 5, 4, 10], &mut message);
     assert_eq!((done, message), (Answer::DONE, [3, 2, 1, 4]));
     let (mut table, mut work) = ([77; 4], [77; 4]);
-    let done = J::coefficients_to_table(FIELD, &message, &mut table, &mut work);
+    let done = J::coefficients_to_table(FIELD, ANY, &message, &mut table, &mut work);
     assert_eq!((done, table, work), (Answer::DONE, [3, 5, 4, 10], [0; 4]));
     let mut three = [77; 3];
-    let refused = J::table_to_coefficients(FIELD, &[1, 2, 3], &mut three);
+    let refused = J::table_to_coefficients(FIELD, ANY, &[1, 2, 3], &mut three);
     assert_eq!((refused, three), (answer(1, 0, 0), [77; 3]));
     assert_eq!(
-        J::table_to_coefficients(FIELD, &[], &mut []),
+        J::table_to_coefficients(FIELD, ANY, &[], &mut []),
         answer(1, 0, 0)
     );
 
     let mut value = 77;
     assert_eq!(
-        J::evaluate(FIELD, 1, &[5, 7], &[3], &mut value),
+        J::evaluate(FIELD, at(1), &[5, 7], &[3], &mut value),
         Answer::DONE
     );
     assert_eq!(value, 26);
     assert_eq!(
-        J::evaluate(FIELD, 1, &[5, 7], &[P], &mut value),
+        J::evaluate(FIELD, at(1), &[5, 7], &[P], &mut value),
         answer(4, 0, 5)
     );
     assert_eq!(
-        J::evaluate(FIELD, 17, &[5, 7], &[3], &mut value),
+        J::evaluate(FIELD, at(17), &[5, 7], &[3], &mut value),
         answer(3, 0, 0)
     );
     assert_eq!(
-        J::evaluate(FIELD, 21, &[5, 7], &[3], &mut value),
+        J::evaluate(FIELD, at(21), &[5, 7], &[3], &mut value),
         answer(1, 0, 0)
     );
     assert_eq!(value, 26);
     places::ground::<J>();
     deep::ground::<J>();
     second::ground::<J>();
+    blocks::ground::<J>();
 }
 
 /// Codeword, decoding, fold, and the edges of the refusals.
@@ -144,10 +151,34 @@ pub fn code<J: CodeJobs>() {
     assert_eq!(encode(CODE, &[5, P]), (answer(4, 1, 4), [77; 4]));
     let refused = |code| encode(code, &[5, 7]);
     let left = |number| (Answer::plain(number), [77; 4]);
-    assert_eq!(refused(LentCode { depth: 17, ..CODE }), left(3));
-    assert_eq!(refused(LentCode { depth: 21, ..CODE }), left(1));
-    assert_eq!(refused(LentCode { rate: 1, ..CODE }), left(2));
-    assert_eq!(refused(LentCode { rate: 17, ..CODE }), left(2));
+    assert_eq!(
+        refused(LentCode {
+            parameters: Parameters::one(17, 2),
+            ..CODE
+        }),
+        left(3)
+    );
+    assert_eq!(
+        refused(LentCode {
+            parameters: Parameters::one(21, 2),
+            ..CODE
+        }),
+        left(1)
+    );
+    assert_eq!(
+        refused(LentCode {
+            parameters: Parameters::one(1, 1),
+            ..CODE
+        }),
+        left(2)
+    );
+    assert_eq!(
+        refused(LentCode {
+            parameters: Parameters::one(1, 17),
+            ..CODE
+        }),
+        left(2)
+    );
     let zero_and_pair = LentCode {
         g: &[1, 0],
         t2: &[2_147_483_645, 3],
@@ -162,6 +193,7 @@ pub fn code<J: CodeJobs>() {
     places::code::<J>();
     deep::code::<J>();
     second::code::<J>();
+    blocks::code::<J>();
 }
 
 /// Openings and verdicts.
@@ -201,6 +233,7 @@ pub fn opening<J: OpeningJobs>() {
     queries::opening::<J>();
     deep::opening::<J>();
     second::opening::<J>();
+    blocks::opening::<J>();
 }
 
 /// At d = 2, c = 2 query 2 must go on at 0: an honest opening is accepted there, and a wrong word
@@ -208,8 +241,7 @@ pub fn opening<J: OpeningJobs>() {
 fn second_half<J: OpeningJobs>() {
     let code = LentCode {
         field: FIELD,
-        depth: 2,
-        rate: 2,
+        parameters: Parameters::one(2, 2),
         g: &[1, 1],
         t: &[2, 3, 4, 5, 6, 7],
         t2: &[8, 9, 10, 11, 12, 13],

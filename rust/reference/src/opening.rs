@@ -1,11 +1,11 @@
 //! Writing an opening.
 
 use crate::answer::{Answer, Input, Refusal};
-use crate::code::{Code, LentCode};
+use crate::code::Code;
 use crate::encode::codeword;
 use crate::fold::fold_block;
-use crate::general::GeneralCode;
 use crate::judge;
+use crate::lent::LentCode;
 use crate::over;
 use crate::polynomial;
 use crate::residue::Residue;
@@ -31,23 +31,10 @@ pub fn opening_of<const P: u32>(
     opening
 }
 
-/// The job that writes an opening, for base messages of one word. Refusals 1 to 6.
-pub fn write_opening(
-    lent: LentCode,
-    message: &[u32],
-    z: &[u32],
-    r: &[u32],
-    opening: &mut [u32],
-    work: &mut [u32],
-    value: &mut u32,
-) -> Answer {
-    write_opening_with(lent.into(), message, z, r, opening, work, value)
-}
-
 /// The job that writes an opening and returns f(z) in `value`. Refusals 1, 2, 13, 3 to 6. The work
 /// buffer, twice as long as the message, is zero after success.
-pub fn write_opening_with(
-    lent: GeneralCode,
+pub fn write_opening(
+    lent: LentCode,
     message: &[u32],
     z: &[u32],
     r: &[u32],
@@ -59,7 +46,7 @@ pub fn write_opening_with(
 }
 
 fn try_write_opening<const P: u32>(
-    lent: GeneralCode,
+    lent: LentCode,
     message: &[u32],
     z: &[u32],
     r: &[u32],
@@ -93,7 +80,6 @@ mod tests {
     use crate::layout::Layout;
     use crate::over_both;
     use crate::sample::{Rng, STYLES};
-    use crate::sizes::Sizes;
 
     over_both!(block_zero_is_the_codeword_of_the_final_value and_of_final_coefficients);
 
@@ -102,7 +88,7 @@ mod tests {
         for depth in 0..=7 {
             for style in STYLES {
                 let rate = 2 + rng.below(15);
-                let code = sample_code::<P>(&mut rng, Sizes { depth, rate }, style);
+                let code = sample_code::<P>(&mut rng, Layout::one(depth, rate), style);
                 let message = rng.residues(1 << depth, style);
                 let z = rng.residues(depth, style);
                 let r = rng.residues(depth, style);

@@ -1,7 +1,7 @@
 //! The parameter record.
 
 /// What a call is lent of sizes, as raw numbers. A job judges those of them that it uses.
-#[derive(Clone, Copy, PartialEq, Eq, Debug)]
+#[derive(Clone, Copy, PartialEq, Eq, Debug, Default)]
 pub struct Parameters {
     /// Depth; for folding the upper level.
     pub depth: u32,

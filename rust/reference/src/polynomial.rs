@@ -64,14 +64,9 @@ pub fn set_high<const P: u32>(message: &[Residue<P>], high: &[Residue<P>]) -> Ve
     (0..left).map(|b| value(&beside(b), high)).collect()
 }
 
-/// The evaluation job for base messages of one word. Refusals 1, 3, 4.
-pub fn evaluate(field: Field, depth: u32, message: &[u32], z: &[u32], value: &mut u32) -> Answer {
-    over!(field, P => try_evaluate::<P>(depth, 1, message, z, value)).into()
-}
-
 /// The evaluation job. Refusals 1, 13, 3, 4. The rate is no number of it. `value` is written only when
 /// done.
-pub fn evaluate_with(
+pub fn evaluate(
     field: Field,
     Parameters { depth, k0, .. }: Parameters,
     message: &[u32],
@@ -139,7 +134,8 @@ mod tests {
         let p = P;
         let mut value = 77;
         let mut answer = |depth, message: &[u32], z: &[u32]| {
-            let answer = evaluate(Field::of(P), depth, message, z, &mut value);
+            let lent = Parameters::one(depth, u32::MAX);
+            let answer = evaluate(Field::of(P), lent, message, z, &mut value);
             assert!(answer.number == 0 || value == 77);
             (answer.number, answer.first, answer.second)
         };

@@ -5,7 +5,6 @@ use crate::field::{Field, FIRST, SECOND};
 use crate::fill::fill_roots;
 use crate::layout::Layout;
 use crate::residue::Residue;
-use crate::sizes::Sizes;
 
 mod base;
 
@@ -129,13 +128,8 @@ impl Rng {
         places
     }
 
-    /// A legal base row, T and T' as words.
-    pub fn code(&mut self, sizes: &Sizes, style: Style) -> [Vec<u32>; 3] {
-        self.general_code(&(*sizes).into(), style)
-    }
-
     /// Legal base rows, T and T' as words.
-    pub fn general_code(&mut self, layout: &Layout, style: Style) -> [Vec<u32>; 3] {
+    pub fn code(&mut self, layout: &Layout, style: Style) -> [Vec<u32>; 3] {
         if style == Style::Roots {
             return self.roots(layout);
         }
@@ -152,8 +146,7 @@ impl Rng {
         let lengths = [sizes.rate, sizes.diagonals(), sizes.diagonals()];
         let mut rows = lengths.map(|length| vec![0; length]);
         let [g, t, t2] = &mut rows;
-        let (depth, rate) = (sizes.depth as u32, sizes.rate as u32);
-        assert_eq!(fill_roots(depth, rate, g, t, t2), Answer::DONE);
+        assert_eq!(fill_roots(sizes.parameters(), g, t, t2), Answer::DONE);
         rows
     }
 

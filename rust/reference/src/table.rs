@@ -67,13 +67,8 @@ pub fn corner_values<const P: u32>(message: &[Residue<P>]) -> Vec<Residue<P>> {
     }
 }
 
-/// Table to coefficients for base messages of one word. Refusals 1, 3, 9.
-pub fn table_to_coefficients(field: Field, clearances: &[i32], message: &mut [u32]) -> Answer {
-    over!(field, P => try_table_to_coefficients::<P>(1, clearances, message)).into()
-}
-
 /// Table to coefficients. Refusals 1, 13, 3, 9. Depth and rate are no numbers of it.
-pub fn table_to_coefficients_with(
+pub fn table_to_coefficients(
     field: Field,
     Parameters { k0, .. }: Parameters,
     clearances: &[i32],
@@ -101,19 +96,9 @@ fn try_table_to_coefficients<const P: u32>(
     Ok(())
 }
 
-/// Coefficients to table for base messages of one word. Refusals 1, 3, 4.
-pub fn coefficients_to_table(
-    field: Field,
-    message: &[u32],
-    clearances: &mut [i32],
-    work: &mut [u32],
-) -> Answer {
-    over!(field, P => try_coefficients_to_table::<P>(1, message, clearances, work)).into()
-}
-
 /// Coefficients to table. Refusals 1, 13, 3, 4. Depth and rate are no numbers of it. The work buffer is
 /// zero after success.
-pub fn coefficients_to_table_with(
+pub fn coefficients_to_table(
     field: Field,
     Parameters { k0, .. }: Parameters,
     message: &[u32],
@@ -147,6 +132,9 @@ mod tests {
     use crate::over_both;
     use crate::sample::{Rng, STYLES};
 
+    /// Depth and rate are of no matter.
+    const ONE: Parameters = Parameters::one(u32::MAX, u32::MAX);
+
     over_both!(the_coefficients_have_the_table_as_corner_values there_and_back refusals_on_the_way_to_coefficients refusals_on_the_way_back);
 
     fn the_coefficients_have_the_table_as_corner_values<const P: u32>() {
@@ -171,11 +159,11 @@ mod tests {
                 .map(|&r| clearance::from_residue(r))
                 .collect();
             let mut message = vec![7; table.len()];
-            let answer = table_to_coefficients(Field::of(P), &table, &mut message);
+            let answer = table_to_coefficients(Field::of(P), ONE, &table, &mut message);
             assert_eq!(answer, Answer::DONE);
             let mut back = vec![8; table.len()];
             let mut work = vec![9; table.len()];
-            let answer = coefficients_to_table(Field::of(P), &message, &mut back, &mut work);
+            let answer = coefficients_to_table(Field::of(P), ONE, &message, &mut back, &mut work);
             assert_eq!(answer, Answer::DONE);
             assert_eq!(back, table);
             assert!(work.iter().all(|&word| word == 0));
@@ -186,7 +174,7 @@ mod tests {
         let big = Field::of(P).max_clearance() + 1;
         let number = |table: &[i32], result: usize| {
             let mut message = vec![7; result];
-            let answer = table_to_coefficients(Field::of(P), table, &mut message);
+            let answer = table_to_coefficients(Field::of(P), ONE, table, &mut message);
             assert!(message.iter().all(|&word| word == 7));
             answer.number
         };
@@ -207,7 +195,8 @@ mod tests {
         let answer = |message: &[u32], result: usize, work: usize| {
             let mut clearances = vec![7; result];
             let mut work = vec![8; work];
-            let answer = coefficients_to_table(Field::of(P), message, &mut clearances, &mut work);
+            let answer =
+                coefficients_to_table(Field::of(P), ONE, message, &mut clearances, &mut work);
             assert!(clearances.iter().all(|&x| x == 7) && work.iter().all(|&x| x == 8));
             (answer.number, answer.first, answer.second)
         };

@@ -1,11 +1,11 @@
 //! Verifying an opening.
 
 use crate::answer::{Answer, Input, Refusal};
-use crate::code::{Code, LentCode};
+use crate::code::Code;
 use crate::encode::by_matrix;
 use crate::fold::line;
-use crate::general::GeneralCode;
 use crate::judge;
+use crate::lent::LentCode;
 use crate::over;
 use crate::polynomial::{corner, value_by_monomials};
 use crate::residue::Residue;
@@ -156,7 +156,7 @@ fn first_wrong_fold<const P: u32>(claim: &Claim<P>, code: &Code<P>, place: usize
     None
 }
 
-/// The verifying job for base messages of one word. Refusals 1 to 7 and 11, then the verdict.
+/// The verifying job. Refusals 1, 2, 13, 3 to 7 and 11, then the verdict.
 pub fn verify_opening(
     lent: LentCode,
     block: &[u32],
@@ -166,43 +166,17 @@ pub fn verify_opening(
     queries: &[u32],
     opening: &[u32],
 ) -> Answer {
-    verify_opening_with(lent.into(), block, z, y, r, queries, opening)
-}
-
-/// The verifying job. Refusals 1, 2, 13, 3 to 7 and 11, then the verdict.
-pub fn verify_opening_with(
-    lent: GeneralCode,
-    block: &[u32],
-    z: &[u32],
-    y: u32,
-    r: &[u32],
-    queries: &[u32],
-    opening: &[u32],
-) -> Answer {
     over!(lent.field, P => {
-        match judge_claim_with::<P>(lent, block, z, y, r, queries, opening) {
+        match judge_claim::<P>(lent, block, z, y, r, queries, opening) {
             Err(refusal) => refusal.into(),
             Ok((code, claim)) => claim.verdict(&code).into(),
         }
     })
 }
 
-/// The refusals of the verifying job for base messages of one word.
+/// The refusals of the verifying job.
 pub fn judge_claim<const P: u32>(
     lent: LentCode,
-    block: &[u32],
-    z: &[u32],
-    y: u32,
-    r: &[u32],
-    queries: &[u32],
-    opening: &[u32],
-) -> Result<(Code<P>, Claim<P>), Refusal> {
-    judge_claim_with(lent.into(), block, z, y, r, queries, opening)
-}
-
-/// The refusals of the verifying job.
-pub fn judge_claim_with<const P: u32>(
-    lent: GeneralCode,
     block: &[u32],
     z: &[u32],
     y: u32,

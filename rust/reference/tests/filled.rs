@@ -2,8 +2,7 @@
 //! polynomial. These are computed here word by word, from the order's text alone.
 
 use tvarchula_reference::sample::{Rng, STYLES};
-use tvarchula_reference::sizes::Sizes;
-use tvarchula_reference::{Answer, CodeJobs, Field, LentCode, OpeningJobs, Reference};
+use tvarchula_reference::{Answer, CodeJobs, Field, Layout, LentCode, OpeningJobs, Reference};
 
 const P: u64 = 2_013_265_921;
 
@@ -34,21 +33,19 @@ fn horner(coefficients: &[u64], x: u64) -> u64 {
 }
 
 /// What filling writes, where it is done.
-fn filled(sizes: Sizes) -> [Vec<u32>; 3] {
+fn filled(sizes: Layout) -> [Vec<u32>; 3] {
     let lengths = [sizes.rate, sizes.diagonals(), sizes.diagonals()];
     let mut rows = lengths.map(|length| vec![u32::MAX; length]);
     let [g, t, t2] = &mut rows;
-    let (depth, rate) = (sizes.depth as u32, sizes.rate as u32);
-    let answer = Reference::fill_roots(depth, rate, g, t, t2);
+    let answer = Reference::fill_roots(sizes.parameters(), g, t, t2);
     assert_eq!(answer, Answer::DONE);
     rows
 }
 
-fn lent(sizes: Sizes, [g, t, t2]: &[Vec<u32>; 3]) -> LentCode<'_> {
+fn lent(sizes: Layout, [g, t, t2]: &[Vec<u32>; 3]) -> LentCode<'_> {
     LentCode {
         field: Field::Second,
-        depth: sizes.depth as u32,
-        rate: sizes.rate as u32,
+        parameters: sizes.parameters(),
         g,
         t,
         t2,
@@ -56,8 +53,8 @@ fn lent(sizes: Sizes, [g, t, t2]: &[Vec<u32>; 3]) -> LentCode<'_> {
 }
 
 /// Every size with a block of at most 2048 words.
-fn sizes() -> impl Iterator<Item = Sizes> {
-    let every = (0..=10).flat_map(|depth| [2, 4, 8, 16].map(|rate| Sizes { depth, rate }));
+fn sizes() -> impl Iterator<Item = Layout> {
+    let every = (0..=10).flat_map(|depth| [2, 4, 8, 16].map(|rate| Layout::one(depth, rate)));
     every.filter(|sizes| sizes.top_block() <= 2048)
 }
 

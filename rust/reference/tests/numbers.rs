@@ -16,10 +16,3 @@ fn code() {
 fn opening() {
     numbers::opening::<Reference>();
 }
-
-#[test]
-fn base_blocks() {
-    numbers::blocks::ground::<Reference>();
-    numbers::blocks::code::<Reference>();
-    numbers::blocks::opening::<Reference>();
-}

@@ -2,10 +2,10 @@
 //! The expected verdicts are derived here from the order, not from the verifier's code.
 
 use tvarchula_reference::sample::{Rng, Style, STYLES};
-use tvarchula_reference::sizes::Sizes;
 use tvarchula_reference::sumcheck::eq;
 use tvarchula_reference::{
-    over_both, Answer, CodeJobs, Field, GroundJobs, LentCode, OpeningJobs, Reference, Residue,
+    over_both, Answer, CodeJobs, Field, GroundJobs, Layout, LentCode, OpeningJobs, Reference,
+    Residue,
 };
 
 over_both!(
@@ -19,7 +19,7 @@ over_both!(
 );
 
 struct Honest<const P: u32> {
-    sizes: Sizes,
+    sizes: Layout,
     code: [Vec<u32>; 3],
     message: Vec<u32>,
     block: Vec<u32>,
@@ -31,7 +31,7 @@ struct Honest<const P: u32> {
 }
 
 impl<const P: u32> Honest<P> {
-    fn new(rng: &mut Rng, sizes: Sizes, style: Style) -> Honest<P> {
+    fn new(rng: &mut Rng, sizes: Layout, style: Style) -> Honest<P> {
         let below = sizes.top_block() / 2;
         let count = if sizes.depth == 0 {
             0
@@ -73,8 +73,7 @@ impl<const P: u32> Honest<P> {
     fn lent(&self) -> LentCode<'_> {
         LentCode {
             field: Field::of(P),
-            depth: self.sizes.depth as u32,
-            rate: self.sizes.rate as u32,
+            parameters: self.sizes.parameters(),
             g: &self.code[0],
             t: &self.code[1],
             t2: &self.code[2],
@@ -127,11 +126,11 @@ fn honest_openings_are_accepted_and_no_other_value<const P: u32>() {
     for depth in 0..=8 {
         for style in STYLES {
             let rate = 2 + rng.below(15);
-            let mut honest = Honest::<P>::new(&mut rng, Sizes { depth, rate }, style);
+            let mut honest = Honest::<P>::new(&mut rng, Layout::one(depth, rate), style);
             let mut value = 0;
             let evaluated = Reference::evaluate(
                 Field::of(P),
-                depth as u32,
+                honest.sizes.parameters(),
                 &honest.message,
                 &honest.z,
                 &mut value,
@@ -148,7 +147,7 @@ fn honest_openings_are_accepted_and_no_other_value<const P: u32>() {
 fn every_query_accepts_an_honest_opening<const P: u32>() {
     let mut rng = Rng::new(Field::of(P), 21);
     for (depth, rate) in [(1, 2), (2, 2), (3, 3), (4, 2), (2, 16)] {
-        let mut honest = Honest::<P>::new(&mut rng, Sizes { depth, rate }, Style::Random);
+        let mut honest = Honest::<P>::new(&mut rng, Layout::one(depth, rate), Style::Random);
         for query in 0..honest.sizes.block(depth - 1) as u32 {
             honest.queries = vec![query];
             assert_eq!(honest.verdict(), (0, 0, 0));
@@ -161,7 +160,7 @@ fn every_query_accepts_an_honest_opening<const P: u32>() {
 fn every_repeat_is_refused<const P: u32>() {
     let mut rng = Rng::new(Field::of(P), 26);
     for (depth, rate, count) in [(1, 2, 2), (2, 3, 6), (3, 2, 7), (9, 2, 20), (6, 16, 256)] {
-        let mut honest = Honest::<P>::new(&mut rng, Sizes { depth, rate }, Style::Random);
+        let mut honest = Honest::<P>::new(&mut rng, Layout::one(depth, rate), Style::Random);
         let places = rng.places(count, honest.sizes.block(depth - 1));
         honest.queries.clone_from(&places);
         assert_eq!(honest.verdict(), (0, 0, 0));
@@ -184,7 +183,7 @@ fn one_moved_word_of_the_rounds_or_the_final_value<const P: u32>() {
     for _ in 0..60 {
         let depth = rng.below(6);
         let rate = 2 + rng.below(5);
-        let mut honest = Honest::<P>::new(&mut rng, Sizes { depth, rate }, Style::Random);
+        let mut honest = Honest::<P>::new(&mut rng, Layout::one(depth, rate), Style::Random);
         let sizes = honest.sizes;
         assert!(!honest.eq_is_zero());
         for i in 1..=depth {
@@ -212,7 +211,7 @@ fn one_moved_word_of_a_block<const P: u32>() {
     for _ in 0..40 {
         let depth = rng.below(6);
         let rate = 2 + rng.below(5);
-        let mut honest = Honest::<P>::new(&mut rng, Sizes { depth, rate }, Style::Random);
+        let mut honest = Honest::<P>::new(&mut rng, Layout::one(depth, rate), Style::Random);
         let sizes = honest.sizes;
         for level in 0..depth {
             let range = sizes.opening_block(level);
@@ -246,7 +245,7 @@ fn a_moved_final_value_where_eq_is_zero<const P: u32>() {
     let mut seen = 0;
     while seen < 20 {
         let depth = 1 + rng.below(4);
-        let mut honest = Honest::<P>::new(&mut rng, Sizes { depth, rate: 3 }, Style::Extreme);
+        let mut honest = Honest::<P>::new(&mut rng, Layout::one(depth, 3), Style::Extreme);
         if honest.eq_is_zero() {
             seen += 1;
             assert_eq!(honest.verdict(), (0, 0, 0));
@@ -257,10 +256,7 @@ fn a_moved_final_value_where_eq_is_zero<const P: u32>() {
 }
 
 fn a_call_that_opens_a_large_size<const P: u32>() {
-    let sizes = Sizes {
-        depth: 16,
-        rate: 16,
-    };
+    let sizes = Layout::one(16, 16);
     let mut honest = Honest::<P>::new(&mut Rng::new(Field::of(P), 25), sizes, Style::Random);
     assert_eq!(honest.verdict(), (0, 0, 0));
     moved::<P>(&mut honest.y);

@@ -4,14 +4,14 @@ use crate::job::Job;
 use crate::out::Out;
 use std::collections::BTreeMap;
 use std::fmt;
-use tvarchula_reference::{Field, LentCode, LentLevel};
+use tvarchula_reference::{Field, Layout, LentCode, LentLevel, Parameters};
 
 /// What a job reads, as words, in the order in which they are judged.
 #[derive(Clone, Copy, PartialEq, Eq, PartialOrd, Ord, Debug)]
 pub enum Input {
     /// The single word of a reading.
     Word,
-    /// Base row.
+    /// Base rows.
     G,
     /// T, for folding only its one level.
     T,
@@ -75,10 +75,8 @@ pub struct Call {
 pub struct Lent {
     /// Field. Filling is lent none, and is for the second.
     pub field: Field,
-    /// Depth, for folding the upper level.
-    pub depth: Option<u32>,
-    /// Rate.
-    pub rate: Option<u32>,
+    /// The record. Reading is lent none, and has zeros here.
+    pub parameters: Parameters,
     /// Words; a single value is one word.
     pub words: BTreeMap<Input, Vec<u32>>,
     /// Clearances.
@@ -103,20 +101,31 @@ impl Lent {
 
     /// Depth or upper level.
     pub fn depth(&self) -> u32 {
-        self.depth.expect("a job with a depth")
+        self.parameters.depth
     }
 
     /// Rate.
     pub fn rate(&self) -> u32 {
-        self.rate.expect("a job with a rate")
+        self.parameters.rate
+    }
+
+    /// Words of a base message.
+    pub fn k0(&self) -> u32 {
+        self.parameters.k0
+    }
+
+    /// The sizes of a legal record.
+    pub fn layout(&self) -> Layout {
+        let Parameters { depth, rate, k0 } = self.parameters;
+        let [depth, rate, k0] = [depth, rate, k0].map(|number| number as usize);
+        Layout { depth, rate, k0 }
     }
 
     /// The one level that folding is lent.
     pub fn level(&self) -> LentLevel<'_> {
         LentLevel {
             field: self.field,
-            level: self.depth(),
-            rate: self.rate(),
+            parameters: self.parameters,
             t: self.words(Input::T),
             t2: self.words(Input::T2),
         }
@@ -126,8 +135,7 @@ impl Lent {
     pub fn code(&self) -> LentCode<'_> {
         LentCode {
             field: self.field,
-            depth: self.depth(),
-            rate: self.rate(),
+            parameters: self.parameters,
             g: self.words(Input::G),
             t: self.words(Input::T),
             t2: self.words(Input::T2),
@@ -171,10 +179,9 @@ impl fmt::Display for Call {
     fn fmt(&self, f: &mut fmt::Formatter) -> fmt::Result {
         write!(f, "{:?} ({})", self.job, self.note)?;
         write!(f, "\n  field {:?}", self.lent.field)?;
-        for (name, number) in [("depth", self.lent.depth), ("rate", self.lent.rate)] {
-            if let Some(number) = number {
-                write!(f, "\n  {name} {number}")?;
-            }
+        if self.job.has_record() {
+            let Parameters { depth, rate, k0 } = self.lent.parameters;
+            write!(f, "\n  depth {depth}, rate {rate}, k0 {k0}")?;
         }
         for (input, words) in &self.lent.words {
             write!(f, "\n  {input:?}: {}", shown(words))?;

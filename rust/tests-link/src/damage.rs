@@ -1,10 +1,10 @@
 //! Damages: each spoils a call in one way, legal words moved by one included.
 
 use crate::buffer::Buffer;
-use crate::call::{Call, Input};
+use crate::call::{Call, Input, Lent};
 use tvarchula_reference::field::{FIRST, SECOND};
 use tvarchula_reference::sample::Rng;
-use tvarchula_reference::sizes::MAX_DEPTH;
+use tvarchula_reference::sizes::{K0S, MAX_DEPTH};
 use tvarchula_reference::Field;
 
 /// A lent slice whose length can be wrong.
@@ -55,14 +55,24 @@ pub enum Damage {
     Depth(u32),
     /// Another rate.
     Rate(u32),
+    /// Another k0.
+    BaseWords(u32),
     /// A slice of a wrong length.
     Length(Slice, Length),
     /// A word, or a single value, mostly of p or more.
     Word(Input, u32, Place),
     /// A word moved by one, still a residue.
     Moved(Input, Place),
-    /// A zero in the base row.
+    /// A zero in the base rows. Where there are several, that alone is no reason to refuse.
     ZeroInRow(Place),
+    /// The second base row like the first.
+    RowCopied,
+    /// The last of the first k0 columns like the one before it.
+    ColumnCopied,
+    /// Zeros in the last of the first k0 columns.
+    ColumnCleared,
+    /// The first two base rows swapped: another code, but as legal.
+    RowsSwapped,
     /// T' like T in a place.
     EqualPair(Place),
     /// A query list of this length, cut or filled with zeros.
@@ -95,15 +105,7 @@ pub fn all(call: &Call) -> Vec<Damage> {
         Field::Second => FIRST - 1,
     };
     let mut damages = Vec::new();
-    if let Some(depth) = lent.depth {
-        let others = [20, 21, 31, 32, 33, 64, u32::MAX, 0, depth + 1];
-        let lower = depth.checked_sub(1);
-        damages.extend(others.into_iter().chain(lower).map(Damage::Depth));
-    }
-    if let Some(rate) = lent.rate {
-        let others = [0, 1, 17, 18, u32::MAX, rate + 1, rate - 1];
-        damages.extend(others.map(Damage::Rate));
-    }
+    damages.extend(numbers(call));
     for slice in slices(call) {
         let lengths = [Length::Longer, Length::Shorter, Length::Empty];
         damages.extend(lengths.map(|length| Damage::Length(slice, length)));
@@ -116,6 +118,10 @@ pub fn all(call: &Call) -> Vec<Damage> {
     }
     if lent.words.contains_key(&Input::G) {
         damages.extend(NAMED.map(Damage::ZeroInRow));
+        if lent.k0() > 1 {
+            damages.extend([Damage::RowCopied, Damage::RowsSwapped]);
+            damages.extend([Damage::ColumnCopied, Damage::ColumnCleared]);
+        }
     }
     if lent.words.contains_key(&Input::T) {
         damages.extend(NAMED.map(Damage::EqualPair));
@@ -142,6 +148,37 @@ pub fn all(call: &Call) -> Vec<Damage> {
             damages.push(Damage::Clearance(word, Place::Any));
         }
     }
+    damages
+}
+
+/// Other numbers in the record, those that the job does not judge too.
+fn numbers(call: &Call) -> Vec<Damage> {
+    let (job, lent) = (call.job, &call.lent);
+    let mut damages = Vec::new();
+    if !job.has_record() {
+        return damages;
+    }
+    if job.judges_depth() {
+        let depth = lent.depth();
+        let others = [20, 21, 31, 32, 33, 64, u32::MAX, 0, depth + 1];
+        damages.extend(others.map(Damage::Depth));
+        damages.extend(depth.checked_sub(1).map(Damage::Depth));
+        if lent.k0() > 1 {
+            damages.extend([18, 19].map(Damage::Depth));
+        }
+    } else {
+        damages.extend([0, 21, u32::MAX].map(Damage::Depth));
+    }
+    if job.judges_rate() {
+        let rate = lent.rate();
+        let others = [0, 1, 17, 18, u32::MAX, rate + 1, rate - 1];
+        damages.extend(others.map(Damage::Rate));
+    } else {
+        damages.extend([0, 17].map(Damage::Rate));
+    }
+    let legal = K0S.into_iter().filter(|&k0| k0 != lent.k0());
+    let others = [0, 3, 5, 8, u32::MAX].into_iter().chain(legal);
+    damages.extend(others.map(Damage::BaseWords));
     damages
 }
 
@@ -193,8 +230,9 @@ pub fn apply(call: &mut Call, damage: Damage, rng: &mut Rng) {
     let legal = legal_places(call);
     let lent = &mut call.lent;
     match damage {
-        Damage::Depth(depth) => lent.depth = Some(depth),
-        Damage::Rate(rate) => lent.rate = Some(rate),
+        Damage::Depth(depth) => lent.parameters.depth = depth,
+        Damage::Rate(rate) => lent.parameters.rate = rate,
+        Damage::BaseWords(k0) => lent.parameters.k0 = k0,
         Damage::Length(slice, length) => resize(call, slice, length),
         Damage::Word(input, word, place) => change(lent.words_mut(input), place, rng, |_| word),
         Damage::Moved(input, place) => {
@@ -202,6 +240,10 @@ pub fn apply(call: &mut Call, damage: Damage, rng: &mut Rng) {
             change(lent.words_mut(input), place, rng, |word| moved(field, word));
         }
         Damage::ZeroInRow(place) => change(lent.words_mut(Input::G), place, rng, |_| 0),
+        Damage::RowCopied => rows(lent, |g, n, _| g.copy_within(..n, n)),
+        Damage::RowsSwapped => rows(lent, |g, n, _| g[..2 * n].rotate_left(n)),
+        Damage::ColumnCopied => columns(lent, |row, last| row[last] = row[last - 1]),
+        Damage::ColumnCleared => columns(lent, |row, last| row[last] = 0),
         Damage::EqualPair(place) => {
             let t = lent.words(Input::T).to_vec();
             let both = t.len().min(lent.words(Input::T2).len());
@@ -236,13 +278,34 @@ pub fn apply(call: &mut Call, damage: Damage, rng: &mut Rng) {
     }
 }
 
-/// How many places are legal for a query of this call, as its depth and rate now are.
+/// How many places are legal for a query of this call, as its record now is.
 fn legal_places(call: &Call) -> u32 {
-    let (depth, rate) = (call.lent.depth.unwrap_or(0), call.lent.rate.unwrap_or(0));
-    match depth {
-        1..=MAX_DEPTH if rate <= 16 => rate << (depth - 1),
+    let lent = &call.lent;
+    match lent.depth() {
+        depth @ 1..=MAX_DEPTH if lent.rate() <= 16 && lent.k0() <= 8 => {
+            (lent.rate() * lent.k0()) << (depth - 1)
+        }
         _ => 0,
     }
+}
+
+/// Changes base rows of n words, where there are at least two as the record says.
+fn rows(lent: &mut Lent, change: impl FnOnce(&mut [u32], usize, usize)) {
+    let k0 = lent.k0() as usize;
+    let g = lent.words_mut(Input::G);
+    if (2..=4).contains(&k0) && g.len() >= k0 * k0 {
+        let n = g.len() / k0;
+        change(g, n, k0);
+    }
+}
+
+/// Changes the first k0 columns, row by row.
+fn columns(lent: &mut Lent, change: impl Fn(&mut [u32], usize)) {
+    rows(lent, |g, n, k0| {
+        for row in g.chunks_exact_mut(n) {
+            change(row, k0 - 1);
+        }
+    });
 }
 
 /// The smallest places that are not in the list yet, behind it.

@@ -5,6 +5,8 @@ use crate::good::{self, Shape};
 use crate::job::Job;
 use tvarchula_reference::encode::codeword;
 use tvarchula_reference::fold::fold_block;
+use tvarchula_reference::linear::{inverse, row_times};
+use tvarchula_reference::polynomial::value_by_monomials;
 use tvarchula_reference::sample::Rng;
 use tvarchula_reference::sumcheck::{eq, quadratic_at, sent_places};
 use tvarchula_reference::verify::judge_claim;
@@ -12,7 +14,7 @@ use tvarchula_reference::{over, Residue};
 
 /// A claim with any claimed value whose block of `level` is not the fold of the block above it: a
 /// codeword of another message (`whole`), or the fold with one word moved, which shows in the base
-/// check. All blocks below are its folds, v is what block 0 holds at its place 0, and the rounds
+/// check. All blocks below are its folds, v is what block 0 holds at its first k0 places, and the rounds
 /// are made to fit: the sum checks hold, and the final one unless r_0 is 0 or 1, which leaves
 /// nothing to fit with.
 pub fn claim(shape: Shape, level: usize, whole: bool, rng: &mut Rng) -> Call {
@@ -36,7 +38,7 @@ fn claim_over<const P: u32>(shape: Shape, level: usize, whole: bool, rng: &mut R
     let mut opening = honest.opening.clone();
 
     let mut block = if whole {
-        let other = rng.residues(1 << level, shape.words);
+        let other = rng.residues(sizes.k0 << level, shape.words);
         codeword(&code, level, &other)
     } else {
         let mut block = honest.level_block(&code, level).to_vec();
@@ -49,11 +51,13 @@ fn claim_over<const P: u32>(shape: Shape, level: usize, whole: bool, rng: &mut R
         block = fold_block(code.t(i), code.t2(i), &block, honest.r[i]);
         opening[sizes.opening_block(i)].copy_from_slice(&block);
     }
-    let v = block[0] * code.g[0].inverse().expect("no zero in the base row");
-    opening[sizes.final_value()] = v;
+    let base = inverse(&code.leading()).expect("a legal base");
+    let v = row_times(&block[..sizes.k0], &base);
+    opening[sizes.final_words()].copy_from_slice(&v);
 
     let y = rng.styled(shape.words);
-    let last = v * eq(&honest.z, &honest.r);
+    let (low, high) = honest.z.split_at(sizes.low());
+    let last = value_by_monomials(&v, low) * eq(high, &honest.r);
     let rounds = fitting_rounds(y, last, &honest.r, shape, rng);
     opening[..sizes.final_value()].copy_from_slice(&rounds);
     let opening = opening.iter().map(|word| word.word()).collect();

@@ -6,25 +6,25 @@ use crate::job::Job;
 use crate::run;
 use tvarchula_reference::clearance::from_residue;
 use tvarchula_reference::sample::{Rng, Style, STYLES};
-use tvarchula_reference::sizes::{Sizes, MAX_QUERIES};
-use tvarchula_reference::{over, Answer, CodeJobs, Reference};
+use tvarchula_reference::sizes::MAX_QUERIES;
+use tvarchula_reference::{over, Answer, CodeJobs, Layout, Reference};
 
 /// Sizes and styles of a call. Its field is that of the generator which makes it.
 #[derive(Clone, Copy, Debug)]
 pub struct Shape {
-    /// Depth (for folding the upper level, at least 1) and rate, legal or not.
-    pub sizes: Sizes,
-    /// Style of base row and diagonals.
+    /// Depth (for folding the upper level, at least 1), rate and k0, legal or not.
+    pub sizes: Layout,
+    /// Style of base rows and diagonals.
     pub code: Style,
     /// Style of everything else.
     pub words: Style,
 }
 
 impl Shape {
-    /// A shape with any styles.
+    /// A shape with any styles and base messages of one word.
     pub fn any(depth: usize, rate: usize, rng: &mut Rng) -> Shape {
         Shape {
-            sizes: Sizes { depth, rate },
+            sizes: Layout::one(depth, rate),
             code: rng.pick(&STYLES),
             words: rng.pick(&STYLES),
         }
@@ -38,31 +38,42 @@ impl Shape {
         }
     }
 
-    /// A shape with any residues, where coincidences are unlikely.
+    /// A shape with any residues, where coincidences are unlikely, and base messages of one word.
     pub fn random(depth: usize, rate: usize) -> Shape {
         Shape {
-            sizes: Sizes { depth, rate },
+            sizes: Layout::one(depth, rate),
             code: Style::Random,
             words: Style::Random,
         }
+    }
+
+    /// The same with base messages of so many words.
+    pub fn with(mut self, k0: usize) -> Shape {
+        self.sizes.k0 = k0;
+        self
     }
 }
 
 /// A call with nothing to refuse: a block to decode is a codeword, an opening to verify is honest.
 pub fn call(job: Job, shape: Shape, rng: &mut Rng) -> Call {
     let mut call = formed(job, shape, rng);
-    match job {
-        Job::Decode => make_codeword(&mut call, shape, rng),
-        Job::VerifyOpening => make_honest(&mut call, shape, rng),
-        // Half the folded blocks are codewords, the others any block.
-        Job::Fold if rng.one_in(2) => make_codeword_to_fold(&mut call, shape, rng),
-        _ => (),
-    }
+    complete(&mut call, shape, rng);
     call
 }
 
-/// A call whose slices have the lengths that its depth and rate ask for, legal or not; a block or
-/// an opening holds any residues.
+/// Makes of a call that is well formed one with nothing to refuse, under the code that it lends.
+pub fn complete(call: &mut Call, shape: Shape, rng: &mut Rng) {
+    match call.job {
+        Job::Decode => make_codeword(call, shape, rng),
+        Job::VerifyOpening => make_honest(call, shape, rng),
+        // Half the folded blocks are codewords, the others any block.
+        Job::Fold if rng.one_in(2) => make_codeword_to_fold(call, shape, rng),
+        _ => (),
+    }
+}
+
+/// A call whose slices have the lengths that its record asks for, legal or not; a block or an opening
+/// holds any residues.
 pub fn formed(job: Job, shape: Shape, rng: &mut Rng) -> Call {
     let Shape { sizes, words, .. } = shape;
     let depth = sizes.depth;
@@ -87,7 +98,7 @@ pub fn formed(job: Job, shape: Shape, rng: &mut Rng) -> Call {
             work = Some(message);
         }
         Job::Evaluate => {
-            inputs.extend([(Input::Message, message), (Input::Z, depth)]);
+            inputs.extend([(Input::Message, message), (Input::Z, sizes.point())]);
         }
         Job::Encode => {
             inputs.push((Input::Message, message));
@@ -104,14 +115,14 @@ pub fn formed(job: Job, shape: Shape, rng: &mut Rng) -> Call {
         Job::WriteOpening => {
             inputs.extend([
                 (Input::Message, message),
-                (Input::Z, depth),
+                (Input::Z, sizes.point()),
                 (Input::R, depth),
             ]);
             (result, work) = (Some(opening), Some(2 * message));
         }
         Job::VerifyOpening => inputs.extend([
             (Input::Block, block),
-            (Input::Z, depth),
+            (Input::Z, sizes.point()),
             (Input::Y, 1),
             (Input::R, depth),
             (Input::Opening, opening),
@@ -119,7 +130,7 @@ pub fn formed(job: Job, shape: Shape, rng: &mut Rng) -> Call {
         Job::FillRoots => {
             let diagonal = sizes.diagonals();
             let row = |length| Buffer::garbage(length, rng, |word| word);
-            call.out.rows = Some([sizes.rate, diagonal, diagonal].map(row));
+            call.out.rows = Some([sizes.rows(), diagonal, diagonal].map(row));
         }
     }
     for (input, length) in inputs {
@@ -131,15 +142,19 @@ pub fn formed(job: Job, shape: Shape, rng: &mut Rng) -> Call {
     call
 }
 
-/// Lends depth, rate, base row, diagonals and queries to the jobs that have them.
+/// Lends record, base rows, diagonals and queries to the jobs that have them. A number of the record that
+/// the job does not judge is any word.
 fn lend_code(call: &mut Call, shape: Shape, rng: &mut Rng) {
     let sizes = shape.sizes;
     let lent = &mut call.lent;
-    if call.job >= Job::Evaluate {
-        lent.depth = Some(sizes.depth as u32);
+    if call.job.has_record() {
+        lent.parameters = sizes.parameters();
     }
-    if call.job >= Job::Encode {
-        lent.rate = Some(sizes.rate as u32);
+    if call.job.has_record() && !call.job.judges_rate() {
+        lent.parameters.rate = rng.word();
+    }
+    if call.job.has_record() && !call.job.judges_depth() {
+        lent.parameters.depth = rng.word();
     }
     if (Job::Encode..Job::FillRoots).contains(&call.job) {
         let [g, mut t, mut t2] = rng.code(&sizes, shape.code);
@@ -159,8 +174,8 @@ fn lend_code(call: &mut Call, shape: Shape, rng: &mut Rng) {
 
 /// A legal query list, no place twice: mostly short, with the ends and the starts of the second halves
 /// among it.
-pub fn queries(sizes: &Sizes, rng: &mut Rng) -> Vec<u32> {
-    if sizes.depth == 0 || sizes.rate == 0 {
+pub fn queries(sizes: &Layout, rng: &mut Rng) -> Vec<u32> {
+    if sizes.depth == 0 || sizes.block(0) == 0 {
         return Vec::new();
     }
     let count = match rng.below(20) {
@@ -182,7 +197,7 @@ pub fn queries(sizes: &Sizes, rng: &mut Rng) -> Vec<u32> {
 
 /// As many different queries as are legal, at most 256: the ends, the starts and ends of the second
 /// halves, and any others.
-pub fn most_queries(sizes: &Sizes, rng: &mut Rng) -> Vec<u32> {
+pub fn most_queries(sizes: &Layout, rng: &mut Rng) -> Vec<u32> {
     if sizes.depth == 0 {
         return Vec::new();
     }

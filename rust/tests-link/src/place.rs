@@ -9,6 +9,7 @@ pub fn is_first(lent: &Lent, answer: Answer) -> bool {
     let index = answer.first as usize;
     match (answer.number, answer.second) {
         (4, input) => is_first_word(lent, input, index),
+        (5, 0) if lent.k0() > 1 => index == 0 && is_singular(lent),
         (5, 0) => ends_at(lent, Input::G, index, |word, _| word == 0),
         (6, 0) => ends_at(lent, Input::T, index, |word, j| {
             lent.words(Input::T2).get(j) == Some(&word)
@@ -32,6 +33,28 @@ fn is_first_word(lent: &Lent, number: u32, index: usize) -> bool {
         && ends_at(lent, named, index, |word, _| high(&word))
 }
 
+/// Whether the first k0 columns of the base rows have the determinant 0.
+fn is_singular(lent: &Lent) -> bool {
+    let (k0, g) = (lent.k0() as usize, lent.words(Input::G));
+    let rows: Vec<&[u32]> = g.chunks(g.len() / k0).collect();
+    let columns: Vec<usize> = (0..k0).collect();
+    determinant(&rows, &columns, lent.field.modulus().into()) == 0
+}
+
+/// By the minors of the first row.
+fn determinant(rows: &[&[u32]], columns: &[usize], p: u64) -> u64 {
+    let Some((first, rest)) = rows.split_first() else {
+        return 1;
+    };
+    let mut sum = 0;
+    for (k, &column) in columns.iter().enumerate() {
+        let others = [&columns[..k], &columns[k + 1..]].concat();
+        let product = u64::from(first[column]) * determinant(rest, &others, p) % p;
+        sum = (sum + if k % 2 == 0 { product } else { p - product }) % p;
+    }
+    sum
+}
+
 /// Whether the first word of an input that offends stands at this index.
 fn ends_at(lent: &Lent, input: Input, index: usize, offends: impl Fn(u32, usize) -> bool) -> bool {
     let Some(words) = lent.words.get(&input) else {
@@ -46,7 +69,7 @@ mod tests {
     use super::*;
     use tvarchula_reference::{over_both, Field};
 
-    over_both!(the_first_word_of_the_first_input the_first_zero_and_the_first_pair);
+    over_both!(the_first_word_of_the_first_input the_first_zero_and_the_first_pair several_rows);
 
     fn lent<const P: u32>(inputs: &[(Input, &[u32])]) -> Lent {
         let words = inputs.iter().map(|(input, words)| (*input, words.to_vec()));
@@ -92,6 +115,30 @@ mod tests {
         only(&lent::<P>(&[(Input::Message, &[P - 1, P])]), 4, (1, 4));
         let folded: [(Input, &[u32]); 2] = [(Input::Block, &[1]), (Input::Challenge, &[P])];
         only(&lent::<P>(&folded), 4, (0, 7));
+    }
+
+    /// Of several rows index 0 is named, and only where the first columns have no inverse.
+    fn several_rows<const P: u32>() {
+        let of = |k0, g: &[u32]| {
+            let mut lent = lent::<P>(&[(Input::G, g)]);
+            lent.parameters.k0 = k0;
+            lent
+        };
+        // Rows 1 2 and 2 4, 0 1 and 1 0, 0 0 and 0 0, with two columns more.
+        only(&of(2, &[1, 2, 3, 4, 2, 4, 0, 1]), 5, (0, 0));
+        only(&of(2, &[0, 1, 0, 0, 1, 0, 0, 0]), 5, (u32::MAX, 0));
+        only(&of(2, &[0, 0, 0, 1, 0, 0, 1, 0]), 5, (0, 0));
+        // Two blocks, of the determinants -2 and 5 x - 42: there is no inverse where x is 42 / 5.
+        let four = |x: u32| {
+            let rows = [[1, 2, 0, 0], [3, 4, 0, 0], [0, 0, 5, 6], [0, 0, 7, x]];
+            rows.map(|row| [row, [9; 4]].concat()).concat()
+        };
+        let root = (1..=5).find_map(|k| {
+            let multiple = u64::from(P) * k + 42;
+            (multiple % 5 == 0).then_some((multiple / 5) as u32 % P)
+        });
+        only(&of(4, &four(root.expect("5 has an inverse"))), 5, (0, 0));
+        only(&of(4, &four(9)), 5, (u32::MAX, 0));
     }
 
     fn the_first_zero_and_the_first_pair<const P: u32>() {

@@ -24,14 +24,18 @@ pub fn ground<J: GroundJobs>(call: &mut Call) -> Answer {
         }
         Job::TableToCoefficients => {
             let table = lent.table.as_ref().expect("a table");
-            J::table_to_coefficients(lent.field, table, out.result)
+            J::table_to_coefficients(lent.field, lent.parameters, table, out.result)
         }
-        Job::CoefficientsToTable => {
-            J::coefficients_to_table(lent.field, lent.words(Input::Message), out.table, out.work)
-        }
+        Job::CoefficientsToTable => J::coefficients_to_table(
+            lent.field,
+            lent.parameters,
+            lent.words(Input::Message),
+            out.table,
+            out.work,
+        ),
         Job::Evaluate => J::evaluate(
             lent.field,
-            lent.depth(),
+            lent.parameters,
             lent.words(Input::Message),
             lent.words(Input::Z),
             out.value,
@@ -54,7 +58,7 @@ pub fn code<J: CodeJobs>(call: &mut Call) -> Answer {
         ),
         Job::FillRoots => {
             let [g, t, t2] = out.rows;
-            J::fill_roots(lent.depth(), lent.rate(), g, t, t2)
+            J::fill_roots(lent.parameters, g, t, t2)
         }
         other => unreachable!("{other:?} is of another group"),
     }

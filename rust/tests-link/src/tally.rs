@@ -106,13 +106,17 @@ mod tests {
         };
         count(0, 0, 0);
         count(3, 0, 0);
-        let missing = [(1, 0), (4, 4)].map(|(number, input)| (Job::Evaluate, number, input));
-        assert_eq!(count(4, 1, 5), missing);
-        assert_eq!(count(4, 0, 4), missing[..1]);
-        assert_eq!(count(1, 0, 0), []);
+        let missing = |missing: &[(u32, u32)]| -> Vec<_> {
+            let named = missing.iter();
+            named.map(|&(n, input)| (Job::Evaluate, n, input)).collect()
+        };
+        assert_eq!(count(4, 1, 5), missing(&[(1, 0), (13, 0), (4, 4)]));
+        assert_eq!(count(4, 0, 4), missing(&[(1, 0), (13, 0)]));
+        assert_eq!(count(1, 0, 0), missing(&[(13, 0)]));
+        assert_eq!(count(13, 0, 0), []);
         count(4, 2, 4);
         assert_eq!(tally.places(Job::Evaluate, 4), 3);
-        let line = "  Evaluate 6: [0] 1 [1] 1 [3] 1 [4] 3 at 3 places\n";
+        let line = "  Evaluate 7: [0] 1 [1] 1 [3] 1 [4] 3 at 3 places [13] 1\n";
         assert_eq!(tally.to_string(), line);
     }
 }

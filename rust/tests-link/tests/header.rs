@@ -87,6 +87,7 @@ fn of_c(parameter: &str) -> (String, String) {
     let kind = match (types, pointer) {
         (["bool"], "") => "bool",
         (["uint32_t"], "") => "u32",
+        (["tv_parameters"], "") => "tv_parameters",
         (["size_t"], "") => "usize",
         (["const", "uint32_t"], "*") => "*const u32",
         (["const", "int32_t"], "*") => "*const i32",
@@ -123,6 +124,10 @@ fn parameters() {
     let without_field = header.iter().filter(|(_, list)| list[0].0 != "field");
     let without_field: Vec<_> = without_field.map(|(name, _)| &name[..]).collect();
     assert_eq!(without_field, ["tv_fill_roots"]);
+    let of_record = |list: &[(String, String)]| list.iter().any(|(name, _)| name == "parameters");
+    let without_record = header.iter().filter(|(_, list)| !of_record(list));
+    let without_record: Vec<_> = without_record.map(|(name, _)| &name[..]).collect();
+    assert_eq!(without_record, ["tv_read_clearance"]);
 }
 
 /// The numbers of a struct in the header, in their order; another struct in it counts as its numbers.
@@ -142,11 +147,19 @@ fn fields(header: &str, name: &str) -> Vec<String> {
 #[test]
 fn structs() {
     use std::mem::{offset_of, size_of};
-    use tvarchula_sys::{tv_answer, tv_reading};
+    use tvarchula_sys::{tv_answer, tv_parameters, tv_reading};
     let header = text("include/tvarchula.h");
     let names = ["number", "first", "second", "kind", "amount"];
     assert_eq!(fields(&header, "tv_answer"), names[..3]);
     assert_eq!(fields(&header, "tv_reading"), names);
+    assert_eq!(fields(&header, "tv_parameters"), ["depth", "rate", "k0"]);
+    let parameters = [
+        offset_of!(tv_parameters, depth),
+        offset_of!(tv_parameters, rate),
+        offset_of!(tv_parameters, k0),
+        size_of::<tv_parameters>(),
+    ];
+    assert_eq!(parameters, [0, 4, 8, 12]);
     let answer = [
         offset_of!(tv_answer, number),
         offset_of!(tv_answer, first),

@@ -20,6 +20,19 @@ pub use numbers::*;
 /// The version of the header that these declarations belong to.
 pub const TV_VERSION: &str = env!("CARGO_PKG_VERSION");
 
+/// What a call is told of sizes. A job judges of it only what it needs: the two table jobs `k0`,
+/// evaluation `depth` and `k0`, every other one all three.
+#[repr(C)]
+#[derive(Clone, Copy, PartialEq, Eq, Debug)]
+pub struct tv_parameters {
+    /// The depth; for folding the upper level.
+    pub depth: u32,
+    /// The words of a block for each word of a message.
+    pub rate: u32,
+    /// The words of a base message, and the rows of the base matrix: 1, 2 or 4.
+    pub k0: u32,
+}
+
 /// What a function answers: its number, and the places that the number names, else 0. Every index
 /// counts from 0, over the whole slice as it was lent.
 #[repr(C)]
@@ -28,8 +41,8 @@ pub const TV_VERSION: &str = env!("CARGO_PKG_VERSION");
 pub struct tv_answer {
     /// 0 is done or accepted.
     pub number: u32,
-    /// 4: the index of the first word that is refused, in its input. 5: that of the first zero in g.
-    /// 6: that of the first equal pair. 20: i. 22: j. 23: the query's position.
+    /// 4: the index of the first word that is refused, in its input. 5: that of the first zero in g,
+    /// and 0 for several base rows. 6: that of the first equal pair. 20: i. 22: j. 23: the query's position.
     pub first: u32,
     /// 4: the input, [`TV_INPUT_G`] to [`TV_INPUT_OPENING`]. 23: the level.
     pub second: u32,

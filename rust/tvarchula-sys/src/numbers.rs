@@ -12,7 +12,7 @@ pub const TV_MODULUS_2: u32 = 2_013_265_921;
 pub const TV_MAX_CLEARANCE_1: i32 = 1_073_741_823;
 /// The largest clearance over the second field; the smallest is its negative.
 pub const TV_MAX_CLEARANCE_2: i32 = 1_006_632_960;
-/// The largest depth.
+/// The largest depth of base messages of one word; for 2 and 4 words it is one and two less.
 pub const TV_MAX_DEPTH: u32 = 20;
 /// The smallest rate.
 pub const TV_MIN_RATE: u32 = 2;
@@ -20,7 +20,7 @@ pub const TV_MIN_RATE: u32 = 2;
 pub const TV_MAX_RATE: u32 = 16;
 /// The longest query list.
 pub const TV_MAX_QUERIES: u32 = 256;
-/// The longest table.
+/// The longest table; `k0 * 2^depth` is at most as large.
 pub const TV_MAX_TABLE_LEN: u32 = 1_048_576;
 
 /// A reading's kind: free, above zero. Only this kind may be passed.
@@ -51,7 +51,7 @@ pub const TV_INPUT_OPENING: u32 = 8;
 pub const TV_DONE: u32 = 0;
 /// The opening is accepted.
 pub const TV_ACCEPTED: u32 = 0;
-/// A depth, an upper level, or a length that tells the depth.
+/// A depth, an upper level, or a length that tells the depth. A `k0` that is not legal counts as 1.
 pub const TV_REFUSED_DEPTH: u32 = 1;
 /// A rate.
 pub const TV_REFUSED_RATE: u32 = 2;
@@ -59,7 +59,8 @@ pub const TV_REFUSED_RATE: u32 = 2;
 pub const TV_REFUSED_LENGTH: u32 = 3;
 /// A word of the field's modulus or more, but for the query list. The answer names its place.
 pub const TV_REFUSED_WORD: u32 = 4;
-/// A zero in the base row. The answer names its place.
+/// A zero in the base row, and the answer names its place; or several base rows whose first columns
+/// have no inverse.
 pub const TV_REFUSED_ROW: u32 = 5;
 /// Diagonals that are equal in some place. The answer names the first.
 pub const TV_REFUSED_DIAGONALS: u32 = 6;
@@ -73,6 +74,8 @@ pub const TV_REFUSED_CLEARANCE: u32 = 9;
 pub const TV_REFUSED_REPEATED: u32 = 11;
 /// A rate that is no power of two. Only filling answers this.
 pub const TV_REFUSED_NO_POWER_OF_TWO: u32 = 12;
+/// A number of words of a base message that the job does not take. It comes right after 2.
+pub const TV_REFUSED_BASE_WORDS: u32 = 13;
 /// A sum check fails.
 pub const TV_FAILED_SUM: u32 = 20;
 /// The final check fails.

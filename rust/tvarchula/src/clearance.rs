@@ -8,6 +8,7 @@ use tvarchula_sys::{tv_reading, TV_CONTACT, TV_FREE, TV_OVERLAP};
 
 use crate::field::Field;
 use crate::input::Input;
+use crate::parameters::Parameters;
 use crate::raw;
 use crate::refusal::{done, Refusal};
 
@@ -124,7 +125,17 @@ pub fn table_to_coefficients(
     clearances: &[i32],
     message: &mut [u32],
 ) -> Result<(), Refusal> {
-    let answer = raw::table_to_coefficients(field, clearances, message);
+    to_coefficients(field, Parameters::new(0, 0), clearances, message)
+}
+
+/// The same of a record, of which k0 alone matters.
+pub(crate) fn to_coefficients(
+    field: Field,
+    sizes: Parameters,
+    clearances: &[i32],
+    message: &mut [u32],
+) -> Result<(), Refusal> {
+    let answer = raw::table_to_coefficients(field, sizes, clearances, message);
     done(field, answer, &[])
 }
 
@@ -159,7 +170,18 @@ pub fn coefficients_to_table(
     clearances: &mut [i32],
     work: &mut [u32],
 ) -> Result<(), Refusal> {
-    let answer = raw::coefficients_to_table(field, message, clearances, work);
+    to_table(field, Parameters::new(0, 0), message, clearances, work)
+}
+
+/// The same of a record, of which k0 alone matters.
+pub(crate) fn to_table(
+    field: Field,
+    sizes: Parameters,
+    message: &[u32],
+    clearances: &mut [i32],
+    work: &mut [u32],
+) -> Result<(), Refusal> {
+    let answer = raw::coefficients_to_table(field, sizes, message, clearances, work);
     done(field, answer, &[(Input::Block, message)])
 }
 

@@ -39,6 +39,12 @@
 //! [`fill_roots`] writes a base row and diagonals that need no drawing, and the code is then a
 //! Reed-Solomon code; `Roots` has them in vectors.
 //!
+//! # Base messages of two and four words
+//!
+//! A [`Code`] has base messages of one word unless [`Code::with_base_words`] names 2 or 4. It then has as many
+//! base rows, and its messages as many words more; [`Parameters`] has all lengths. Tables, evaluation and folding
+//! of such a code are methods of it; the functions without a code have base messages of one word.
+//!
 //! # Buffers
 //!
 //! Every job reads slices and writes into buffers that it is lent; neither the library nor these
@@ -73,6 +79,7 @@ mod code;
 mod field;
 mod input;
 mod opening;
+mod parameters;
 #[allow(unsafe_code)]
 mod raw;
 mod refusal;
@@ -91,6 +98,7 @@ pub use input::Input;
 #[cfg(feature = "alloc")]
 pub use opening::write_opening_vec;
 pub use opening::{verdict, verify_opening, write_opening, Claim, Question};
+pub use parameters::Parameters;
 pub use refusal::Refusal;
 pub use roots::fill_roots;
 #[cfg(feature = "alloc")]

@@ -6,12 +6,13 @@ use alloc::{vec, vec::Vec};
 use crate::code::Code;
 use crate::input::Input;
 use crate::raw;
-use crate::refusal::{done, Refusal};
-#[cfg(feature = "alloc")]
-use crate::sizes::{message_len, opening_len};
+use crate::refusal::{done_with, Refusal};
 use crate::verdict::{verdict_of, Verdict, VerifyError};
 
-/// What an opening answers. `z` and `r` have a word for each variable, word i for variable i.
+/// What an opening answers. `z` has a word for each variable, word i for variable i; `r` has one for each level,
+/// which with base messages of one word is the same. Else the low variables, of which a base message of two
+/// words has one and one of four has two, come first in `z`, and word i of `r` is for the variable that many
+/// places higher.
 #[derive(Clone, Copy, PartialEq, Eq, Debug)]
 pub struct Question<'a> {
     /// The point at which the polynomial is asked for. Entry b of a table stands at the corner where
@@ -23,7 +24,7 @@ pub struct Question<'a> {
 
 /// What an opening has to show: that the committed polynomial has the value `y` at `z`.
 ///
-/// `z` and `r` have a word for each variable, word i for variable i.
+/// `z` and `r` are those of the [`Question`].
 #[derive(Clone, Copy, PartialEq, Eq, Debug)]
 pub struct Claim<'a> {
     /// The point at which the polynomial is asked for.
@@ -33,20 +34,20 @@ pub struct Claim<'a> {
     /// The challenges under which the opening was written.
     pub r: &'a [u32],
     /// The places at which folds are checked: 1 to [`MAX_QUERIES`](crate::MAX_QUERIES) places below
-    /// [`block_len`](crate::block_len)`(depth - 1, rate)`, each different from all others; at depth 0
+    /// [`block_len`](crate::Parameters::block_len)`(depth - 1)`, each different from all others; at depth 0
     /// none. The planner could not foresee them when it wrote the opening.
     pub queries: &'a [u32],
 }
 
 /// Writes an opening of the message, and returns the value at `z`.
 ///
-/// `opening` has [`opening_len`](crate::opening_len) words, and `work` twice
-/// [`message_len`](crate::message_len).
+/// `opening` has [`opening_len`](crate::Parameters::opening_len) words, and `work` twice
+/// [`message_len`](crate::Parameters::message_len).
 ///
 /// # Errors
 ///
-/// [`Refusal::Depth`], [`Refusal::Rate`], [`Refusal::Length`], [`Refusal::Word`],
-/// [`Refusal::BaseRow`], [`Refusal::Diagonals`].
+/// [`Refusal::Depth`], [`Refusal::Rate`], [`Refusal::BaseWords`], [`Refusal::Length`], [`Refusal::Word`],
+/// [`Refusal::BaseRow`] or [`Refusal::BaseRows`], [`Refusal::Diagonals`].
 ///
 /// ```
 /// use tvarchula::{write_opening, Code, Field, Question};
@@ -71,7 +72,7 @@ pub fn write_opening(
     let (z, r) = ((Input::Z, question.z), (Input::R, question.r));
     let answer = raw::write_opening(code, message, question, opening, work, &mut value);
     let lent = [g, t, t2, (Input::Block, message), z, r];
-    done(code.field, answer, &lent)?;
+    done_with(code, answer, &lent)?;
     Ok(value)
 }
 
@@ -86,22 +87,23 @@ pub fn write_opening_vec(
     message: &[u32],
     question: &Question<'_>,
 ) -> Result<(Vec<u32>, u32), Refusal> {
-    let mut opening = vec![0; opening_len(code.depth, code.rate)];
-    let mut work = vec![0; 2 * message_len(code.depth)];
+    let sizes = code.parameters();
+    let mut opening = vec![0; sizes.opening_len()];
+    let mut work = vec![0; 2 * sizes.message_len()];
     let value = write_opening(code, message, question, &mut opening, &mut work)?;
     Ok((opening, value))
 }
 
 /// Accepts an opening only when every check of it holds: then it shows the claim.
 ///
-/// `block` is the commitment, [`block_len`](crate::block_len)`(depth, rate)` words.
+/// `block` is the commitment, [`block_len`](crate::Parameters::block_len)`(depth)` words.
 ///
 /// # Errors
 ///
 /// [`VerifyError::Rejected`] with the first check that fails, when all is well formed.
-/// [`VerifyError::Refused`] with [`Refusal::Depth`], [`Refusal::Rate`], [`Refusal::Length`],
-/// [`Refusal::Word`], [`Refusal::BaseRow`], [`Refusal::Diagonals`], [`Refusal::Queries`] or
-/// [`Refusal::Repeated`].
+/// [`VerifyError::Refused`] with [`Refusal::Depth`], [`Refusal::Rate`], [`Refusal::BaseWords`],
+/// [`Refusal::Length`], [`Refusal::Word`], [`Refusal::BaseRow`], [`Refusal::BaseRows`],
+/// [`Refusal::Diagonals`], [`Refusal::Queries`] or [`Refusal::Repeated`].
 ///
 /// ```
 /// use tvarchula::{verify_opening, Claim, Code, Failure, Field, Refusal, VerifyError};
@@ -197,5 +199,5 @@ pub fn verdict(
         (Input::Opening, opening),
     ];
     let answer = raw::verify_opening(code, block, claim, opening);
-    verdict_of(code.field, answer, &lent)
+    verdict_of(code, answer, &lent)
 }

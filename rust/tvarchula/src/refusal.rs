@@ -5,13 +5,14 @@ use core::fmt;
 
 use tvarchula_sys::{self as sys, tv_answer};
 
+use crate::code::Code;
 use crate::field::Field;
 use crate::input::Input;
-use crate::sizes::{MAX_DEPTH, MAX_RATE, MAX_TABLE_LEN, MIN_RATE};
+use crate::sizes::{MAX_RATE, MAX_TABLE_LEN, MIN_RATE};
 
 /// Why a job refuses what it is lent. When several reasons apply, the one with the smallest number
-/// is given; where that is 4, 5 or 6, it names the first place that offends. Every index counts from
-/// 0, over the whole slice as it was lent.
+/// is given, but that 13 comes right after 2; where it is 4, 5 or 6, it names the first place that
+/// offends. Every index counts from 0, over the whole slice as it was lent.
 ///
 /// ```
 /// use tvarchula::{evaluate, table_to_coefficients, Field, Input, Refusal};
@@ -28,9 +29,9 @@ use crate::sizes::{MAX_DEPTH, MAX_RATE, MAX_TABLE_LEN, MIN_RATE};
 #[derive(Clone, Copy, PartialEq, Eq, Hash, Debug)]
 #[non_exhaustive]
 pub enum Refusal {
-    /// 1: a depth above [`MAX_DEPTH`]; for folding an upper level that is not 1 to [`MAX_DEPTH`];
-    /// where a job finds the depth from a length, one that is no power of two from 1 to
-    /// [`MAX_TABLE_LEN`].
+    /// 1: a depth with which messages would have more than [`MAX_TABLE_LEN`] words; for folding the upper
+    /// level 0 too; where a job finds the depth from a length, one that is no power of two from k0 to
+    /// [`MAX_TABLE_LEN`]. A k0 that is not legal counts as 1 here.
     Depth,
     /// 2: a rate that is not [`MIN_RATE`] to [`MAX_RATE`].
     Rate,
@@ -49,11 +50,13 @@ pub enum Refusal {
         /// The word that stands there.
         word: u32,
     },
-    /// 5: a zero in the base row.
+    /// 5: a zero in the base row, where there is one row.
     BaseRow {
         /// The first zero's index.
         index: usize,
     },
+    /// 5: two or four base rows whose first columns, as many as the rows, have no inverse.
+    BaseRows,
     /// 6: the two diagonals are equal in some place.
     Diagonals {
         /// The index of the first such place.
@@ -74,6 +77,8 @@ pub enum Refusal {
     Repeated,
     /// 12: a rate that is no power of two. Only [`fill_roots`](crate::fill_roots) answers this.
     NoPowerOfTwo,
+    /// 13: a number of words of a base message that is not 1, 2 or 4.
+    BaseWords,
     /// The archive answered what this crate does not know, or a place that does not fit the call: it
     /// is of another version. Nothing that such a call wrote or said may be used.
     Unknown {
@@ -85,7 +90,7 @@ pub enum Refusal {
 }
 
 impl Refusal {
-    /// The number that C sees, 1 to 9, 11 or 12. [`Refusal::Unknown`] has the number that was
+    /// The number that C sees, 1 to 9 or 11 to 13. [`Refusal::Unknown`] has the number that was
     /// answered.
     #[must_use]
     pub const fn number(self) -> u32 {
@@ -94,20 +99,21 @@ impl Refusal {
             Refusal::Rate => sys::TV_REFUSED_RATE,
             Refusal::Length => sys::TV_REFUSED_LENGTH,
             Refusal::Word { .. } => sys::TV_REFUSED_WORD,
-            Refusal::BaseRow { .. } => sys::TV_REFUSED_ROW,
+            Refusal::BaseRow { .. } | Refusal::BaseRows => sys::TV_REFUSED_ROW,
             Refusal::Diagonals { .. } => sys::TV_REFUSED_DIAGONALS,
             Refusal::Queries => sys::TV_REFUSED_QUERIES,
             Refusal::NoCodeword => sys::TV_REFUSED_NO_CODEWORD,
             Refusal::Clearance { .. } => sys::TV_REFUSED_CLEARANCE,
             Refusal::Repeated => sys::TV_REFUSED_REPEATED,
             Refusal::NoPowerOfTwo => sys::TV_REFUSED_NO_POWER_OF_TWO,
+            Refusal::BaseWords => sys::TV_REFUSED_BASE_WORDS,
             Refusal::Unknown { number, .. } => number,
         }
     }
 
-    /// The refusal that an answer tells of a call, if it is one that this crate knows and its place is
-    /// there: what is said of the word must be true of the caller's own.
-    fn of(field: Field, answer: tv_answer, lent: Lent<'_>) -> Option<Refusal> {
+    /// The refusal that an answer tells of a call with so many base rows, if it is one that this crate knows
+    /// and its place is there: what is said of the word must be true of the caller's own.
+    fn of(field: Field, k0: u32, answer: tv_answer, lent: Lent<'_>) -> Option<Refusal> {
         let index = answer.first as usize;
         let word = |input| words(lent, input)?.get(index).copied();
         match (answer.number, answer.second) {
@@ -120,6 +126,10 @@ impl Refusal {
                     index,
                     word,
                 })
+            }
+            (sys::TV_REFUSED_ROW, 0) if k0 > 1 => {
+                let rows = index == 0 && !words(lent, Input::G)?.is_empty();
+                rows.then_some(Refusal::BaseRows)
             }
             (sys::TV_REFUSED_ROW, 0) => {
                 let zero = word(Input::G)? == 0;
@@ -145,6 +155,7 @@ impl Refusal {
             sys::TV_REFUSED_CLEARANCE => Refusal::Clearance { field },
             sys::TV_REFUSED_REPEATED => Refusal::Repeated,
             sys::TV_REFUSED_NO_POWER_OF_TWO => Refusal::NoPowerOfTwo,
+            sys::TV_REFUSED_BASE_WORDS => Refusal::BaseWords,
             _ => return None,
         })
     }
@@ -155,8 +166,8 @@ impl fmt::Display for Refusal {
         match self {
             Refusal::Depth => write!(
                 f,
-                "the depth is above {MAX_DEPTH}, the upper level of a fold is not 1 to {MAX_DEPTH}, \
-                 or a length that tells the depth is no power of two from 1 to {MAX_TABLE_LEN}"
+                "a message of that depth has more than {MAX_TABLE_LEN} words, the upper level of a fold is 0, \
+                 or a length that tells the depth is no power of two from k0 to {MAX_TABLE_LEN}"
             ),
             Refusal::Rate => write!(f, "the rate is not {MIN_RATE} to {MAX_RATE}"),
             Refusal::Length => f.write_str("a slice has not its exact length"),
@@ -170,6 +181,7 @@ impl fmt::Display for Refusal {
                 write!(f, "word {index} of {input} is {word}, not below {modulus}")
             }
             Refusal::BaseRow { index } => write!(f, "word {index} of the base row is 0"),
+            Refusal::BaseRows => f.write_str("the first columns of the base rows have no inverse"),
             Refusal::Diagonals { index } => write!(f, "word {index} of T and of T' are equal"),
             Refusal::Queries => f.write_str(
                 "the query list is too short or too long, or one of its places is too large",
@@ -183,6 +195,7 @@ impl fmt::Display for Refusal {
                 f.write_str("a place stands in the query list more than once")
             }
             Refusal::NoPowerOfTwo => f.write_str("the rate is no power of two"),
+            Refusal::BaseWords => f.write_str("a base message has not 1, 2 or 4 words"),
             Refusal::Unknown { number, kind } => write!(
                 f,
                 "libtvarchula.a is of another version: it answered {number}, kind {kind}"
@@ -202,13 +215,23 @@ fn words(lent: Lent<'_>, input: Input) -> Option<&[u32]> {
     Some(words)
 }
 
-/// The result of a job from what it answers. Only 0 is success. A place that does not fit the call, or
-/// stands with a number that names none, is of another version.
+/// The result of a job that has no code, from what it answers. Only 0 is success. A place that does not fit
+/// the call, or stands with a number that names none, is of another version.
 pub(crate) fn done(field: Field, answer: tv_answer, lent: Lent<'_>) -> Result<(), Refusal> {
+    result(field, 1, answer, lent)
+}
+
+/// The same of a job that has one.
+pub(crate) fn done_with(code: &Code<'_>, answer: tv_answer, lent: Lent<'_>) -> Result<(), Refusal> {
+    result(code.field, code.k0, answer, lent)
+}
+
+fn result(field: Field, k0: u32, answer: tv_answer, lent: Lent<'_>) -> Result<(), Refusal> {
     let number = answer.number;
+    let unknown = Refusal::Unknown { number, kind: 0 };
     match (number, answer.first, answer.second) {
         (sys::TV_DONE, 0, 0) => Ok(()),
-        _ => Err(Refusal::of(field, answer, lent).unwrap_or(Refusal::Unknown { number, kind: 0 })),
+        _ => Err(Refusal::of(field, k0, answer, lent).unwrap_or(unknown)),
     }
 }
 
@@ -248,7 +271,7 @@ mod tests {
             let refused = answered(number, 0, 0).unwrap_err();
             assert_eq!(refused.number(), number);
         }
-        for number in [10, 13, 20, 23, 24, 40, u32::MAX] {
+        for number in [10, 14, 20, 23, 24, 40, u32::MAX] {
             assert_eq!(answered(number, 0, 0), unknown(number));
         }
     }
@@ -295,7 +318,7 @@ mod tests {
         for (number, first, second) in [(5, 3, 0), (6, 4, 0), (5, 1, 1), (6, 1, 2)] {
             assert_eq!(answered(number, first, second), unknown(number));
         }
-        for number in [0, 1, 2, 3, 7, 8, 9, 11, 12] {
+        for number in [0, 1, 2, 3, 7, 8, 9, 11, 12, 13] {
             for (first, second) in [(1, 0), (0, 1), (2, 2)] {
                 assert_eq!(answered(number, first, second), unknown(number));
             }
@@ -306,6 +329,27 @@ mod tests {
             second: 0,
         };
         assert_eq!(done(Field::Mersenne31, refused, &[]), unknown(5));
+    }
+
+    /// Of several rows 5 names no word.
+    #[test]
+    fn several_rows() {
+        let code = Code::new(Field::Mersenne31, 0, 2, &[], &[], &[]);
+        let answered = |k0, first, lent| {
+            let answer = tv_answer {
+                number: 5,
+                first,
+                second: 0,
+            };
+            done_with(&code.with_base_words(k0), answer, lent)
+        };
+        for k0 in [2, 4] {
+            assert_eq!(answered(k0, 0, LENT), Err(Refusal::BaseRows));
+            assert_eq!(answered(k0, 1, LENT), unknown(5));
+            assert_eq!(answered(k0, 0, &[]), unknown(5));
+        }
+        assert_eq!(answered(1, 1, LENT), Err(Refusal::BaseRow { index: 1 }));
+        assert_eq!(answered(1, 0, LENT), unknown(5));
     }
 
     /// What one field refuses may be a word of the other.
@@ -375,6 +419,11 @@ mod tests {
                 "word 40 of the opening is 2147483647, not below 2147483647",
             ),
             (Refusal::BaseRow { index: 3 }, "word 3 of the base row is 0"),
+            (
+                Refusal::BaseRows,
+                "the first columns of the base rows have no inverse",
+            ),
+            (Refusal::BaseWords, "a base message has not 1, 2 or 4 words"),
             (
                 Refusal::Diagonals { index: 17 },
                 "word 17 of T and of T' are equal",

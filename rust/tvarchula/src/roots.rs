@@ -6,6 +6,7 @@ use alloc::{vec, vec::Vec};
 #[cfg(feature = "alloc")]
 use crate::code::Code;
 use crate::field::Field;
+use crate::parameters::Parameters;
 use crate::raw;
 use crate::refusal::{done, Refusal};
 #[cfg(feature = "alloc")]
@@ -22,7 +23,7 @@ use crate::sizes::{block_len, diagonals_len};
 /// in one variable, at the powers of the root whose order is the length of the block. Word b of the
 /// message is the coefficient of the degree that has the `depth` bits of b in reversed order.
 ///
-/// What the buffers hold before the call does not matter.
+/// These are for base messages of one word. What the buffers hold before the call does not matter.
 ///
 /// # Errors
 ///
@@ -48,7 +49,7 @@ pub fn fill_roots(
     t: &mut [u32],
     t2: &mut [u32],
 ) -> Result<(), Refusal> {
-    let answer = raw::fill_roots(depth, rate, g, t, t2);
+    let answer = raw::fill_roots(Parameters::new(depth, rate), g, t, t2);
     done(Field::BabyBear, answer, &[])
 }
 

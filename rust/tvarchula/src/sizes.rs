@@ -1,9 +1,12 @@
-//! The limits, and the lengths that follow from a depth and a rate. They are the same in both fields.
+//! The limits, and the lengths that follow from a depth and a rate with base messages of one word. They
+//! are the same in both fields.
 //!
 //! A length is 0 where depth, level or rate is not legal. Every job refuses those before it looks
 //! at any length, so a buffer of that length is answered with the right refusal.
 
-/// The largest depth.
+use crate::parameters::Parameters;
+
+/// The largest depth of base messages of one word; for two and four words it is one and two less.
 pub const MAX_DEPTH: u32 = tvarchula_sys::TV_MAX_DEPTH;
 /// The smallest rate.
 pub const MIN_RATE: u32 = tvarchula_sys::TV_MIN_RATE;
@@ -11,10 +14,10 @@ pub const MIN_RATE: u32 = tvarchula_sys::TV_MIN_RATE;
 pub const MAX_RATE: u32 = tvarchula_sys::TV_MAX_RATE;
 /// The longest query list.
 pub const MAX_QUERIES: usize = tvarchula_sys::TV_MAX_QUERIES as usize;
-/// The longest table, 2^[`MAX_DEPTH`] entries.
+/// The longest table and the longest message, 2^[`MAX_DEPTH`] words.
 pub const MAX_TABLE_LEN: usize = tvarchula_sys::TV_MAX_TABLE_LEN as usize;
 
-/// Words of a message: 2^depth.
+/// Words of a message: 2^depth. For base messages of more than one word [`Parameters`] has all lengths.
 ///
 /// ```
 /// use tvarchula::message_len;
@@ -24,11 +27,7 @@ pub const MAX_TABLE_LEN: usize = tvarchula_sys::TV_MAX_TABLE_LEN as usize;
 /// ```
 #[must_use]
 pub const fn message_len(depth: u32) -> usize {
-    if depth <= MAX_DEPTH {
-        1 << depth
-    } else {
-        0
-    }
+    Parameters::new(depth, MIN_RATE).message_len()
 }
 
 /// Words of a block of a level: rate * 2^level.
@@ -41,11 +40,7 @@ pub const fn message_len(depth: u32) -> usize {
 /// ```
 #[must_use]
 pub const fn block_len(level: u32, rate: u32) -> usize {
-    if MIN_RATE <= rate && rate <= MAX_RATE {
-        rate as usize * message_len(level)
-    } else {
-        0
-    }
+    Parameters::new(level, rate).block_len(level)
 }
 
 /// Words of each of the two diagonals: rate * (2^depth - 1).
@@ -61,7 +56,7 @@ pub const fn block_len(level: u32, rate: u32) -> usize {
 /// ```
 #[must_use]
 pub const fn diagonals_len(depth: u32, rate: u32) -> usize {
-    block_len(depth, rate).saturating_sub(rate as usize)
+    Parameters::new(depth, rate).diagonals_len()
 }
 
 /// Words of an opening: 3 * depth + 1 + rate * (2^depth - 1).
@@ -78,8 +73,5 @@ pub const fn diagonals_len(depth: u32, rate: u32) -> usize {
 /// ```
 #[must_use]
 pub const fn opening_len(depth: u32, rate: u32) -> usize {
-    if block_len(depth, rate) == 0 {
-        return 0;
-    }
-    3 * depth as usize + 1 + diagonals_len(depth, rate)
+    Parameters::new(depth, rate).opening_len()
 }

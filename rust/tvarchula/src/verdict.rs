@@ -5,8 +5,8 @@ use core::fmt;
 
 use tvarchula_sys::{self as sys, tv_answer};
 
-use crate::field::Field;
-use crate::refusal::{done, Lent, Refusal};
+use crate::code::Code;
+use crate::refusal::{done_with, Lent, Refusal};
 
 /// The verdict on an opening that is well formed.
 #[derive(Clone, Copy, PartialEq, Eq, Hash, Debug)]
@@ -158,7 +158,7 @@ impl Error for VerifyError {}
 /// The verdict from what the verifier answers of a call. Only 0 accepts; a number that is neither a
 /// failure nor a refusal known here, or that stands with a place it does not name, is refused as unknown.
 pub(crate) fn verdict_of(
-    field: Field,
+    code: &Code<'_>,
     answer: tv_answer,
     lent: Lent<'_>,
 ) -> Result<Verdict, Refusal> {
@@ -168,7 +168,7 @@ pub(crate) fn verdict_of(
             (sys::TV_FAILED_FINAL, 0, 0) => Failure::Final,
             (sys::TV_FAILED_BASE, j, 0) => Failure::Base(j),
             (sys::TV_FAILED_FOLD, query, level) => Failure::Fold { query, level },
-            _ => return done(field, answer, lent).map(|()| Verdict::Accepted),
+            _ => return done_with(code, answer, lent).map(|()| Verdict::Accepted),
         },
     ))
 }
@@ -177,6 +177,7 @@ pub(crate) fn verdict_of(
 mod tests {
     use super::*;
 
+    use crate::field::Field;
     use crate::input::Input;
 
     fn answered(number: u32, first: u32, second: u32) -> Result<Verdict, Refusal> {
@@ -185,7 +186,8 @@ mod tests {
             first,
             second,
         };
-        verdict_of(Field::BabyBear, answer, &[(Input::Y, &[u32::MAX])])
+        let code = Code::new(Field::BabyBear, 1, 2, &[], &[], &[]);
+        verdict_of(&code, answer, &[(Input::Y, &[u32::MAX])])
     }
 
     #[test]

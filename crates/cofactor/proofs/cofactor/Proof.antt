@@ -2,7 +2,7 @@ use native.Mathlib.Omega.{arith}
 use borrow.Author.Needs.{needs}
 use Rattle.residue.specs.ResidueLaws.{is-low}
 use Rattle.residue.specs.Chosen.{chosen}
-use Rattle.cofactor.specs.RowLaws.{size-most}
+use Rattle.job.specs.SizeLaws.{size-most}
 use Rattle.cofactor.proofs.Minors.{even-value, odd-value}
 use Rattle.cofactor.proofs.cofactor.Statement.{statement}
 use Rattle.cofactor.proofs.cofactor.Tie as tie

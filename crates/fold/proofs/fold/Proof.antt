@@ -17,16 +17,16 @@ enum-told : tie.Need-enum-told
 enum-told c = search needs
 
 -- no refusal is due
-passed : (c : tie.After-enum-told) → (let a = c .before .before .before .before .before .before .before .args in judgeFolding (chosen (a .field)) (a .level) (a .rate) (a .t .now) (a .t2 .now) (a .block .now) (a .challenge) (length (a .out .now))) ≡ done tt
+passed : (c : tie.After-enum-told) → (let a = c .before .before .before .before .before .before .before .args in judgeFolding (chosen (a .field)) (a .p .depth) (a .p .rate) (a .p .k0) (a .t .now) (a .t2 .now) (a .block .now) (a .challenge) (length (a .out .now))) ≡ done tt
 passed c = sym (c .before .before .judge .ensures) ∙ ap outcome (c .enum-told .given .1)
 
 new-requires : tie.Need-new-requires
-new-requires c κs = let a = c .before .before .before .before .before .before .before .args in no-refusal-due (chosen (a .field)) _ _ _ _ _ _ _ (passed c) .challenge
+new-requires c κs = let a = c .before .before .before .before .before .before .before .args in no-refusal-due (chosen (a .field)) _ _ _ _ _ _ _ _ (passed c) .challenge
 
 fold-block-requires : tie.Need-fold-block-requires
 fold-block-requires c κs =
     let a = c .before .before .before .before .before .before .before .before .before .args in
-    let u = no-refusal-due (chosen (a .field)) _ _ _ _ _ _ _ (passed (c .before .before)) in
+    let u = no-refusal-due (chosen (a .field)) _ _ _ _ _ _ _ _ (passed (c .before .before)) in
     (u .diagonals, u .first, u .second, u .whole, u .low, rw (c .before .new .ensures) (u .challenge))
 
 enum-told-2 : tie.Need-enum-told-2
@@ -39,7 +39,7 @@ returns : tie.Need-returns
 returns c =
     let a = c .before .before .before .before .before .before .before .before .before .before .before .before .args in
     let e = passed (c .before .before .before .before .before) in
-    let u = no-refusal-due (chosen (a .field)) _ _ _ _ _ _ _ e in
+    let u = no-refusal-due (chosen (a .field)) _ _ _ _ _ _ _ _ e in
     record {
       answer = c .before .before .before .before .before .before .before .judge .ensures;
       result = kept-done (a .out .now) e (c .before .before .fold-block .ensures ∙ (λ k. foldWords (chosen (a .field)) (u .size k) (a .t .now) (a .t2 .now) (a .block .now) (c .before .before .before .before .new .ensures k)));

@@ -14,7 +14,7 @@ enum-told : tie.Need-enum-told
 enum-told c = search needs
 
 value-requires : tie.Need-value-requires
-value-requires c κs = let a = c .before .before .before .before .before .args in evaluates (chosen (a .field)) (a .depth) (a .message .now) (a .point .now) (sym (c .before .before .judge .ensures) ∙ ap outcome (c .enum-told .given .1))
+value-requires c κs = let a = c .before .before .before .before .before .args in evaluates (chosen (a .field)) (a .p .depth) (a .p .k0) (a .message .now) (a .point .now) (sym (c .before .before .judge .ensures) ∙ ap outcome (c .enum-told .given .1))
 
 word-requires : tie.Need-word-requires
 word-requires c κs = search needs

@@ -9,7 +9,7 @@ use crate::filling::Filling;
 use crate::jobs::{Jobs, Outputs};
 use crate::plain::{Filled, Folding, Opened};
 use crate::products::Products;
-use tvarchula_sys::{tv_answer, TV_FIELD_1, TV_FIELD_2};
+use tvarchula_sys::{tv_answer, tv_parameters, TV_FIELD_1, TV_FIELD_2};
 
 /// The static library over a field: `TV_FIELD_1` or `TV_FIELD_2`.
 #[derive(Clone, Copy, Debug)]
@@ -28,14 +28,8 @@ mod library {
     pub use tvarchula_sys::*;
 }
 
-/// The same of an older library: the build renames its functions and declares them. One that it has not is
-/// declared too, and never called.
 #[cfg(before)]
-#[allow(dead_code)]
-mod before {
-    include!(concat!(env!("OUT_DIR"), "/before_tvarchula.rs"));
-    include!(concat!(env!("OUT_DIR"), "/before_products.rs"));
-}
+use tvarchula_before as before;
 
 fn answer(raw: tv_answer) -> Answer {
     Answer {
@@ -45,14 +39,20 @@ fn answer(raw: tv_answer) -> Answer {
     }
 }
 
+/// A record. What a job does not judge there is 0.
+fn record(depth: u32, rate: u32, k0: u32) -> tv_parameters {
+    tv_parameters { depth, rate, k0 }
+}
+
 // SAFETY of all calls below: see the head of this file.
 macro_rules! linked {
     ($side:ty, $functions:ident, $field:expr) => {
         impl Jobs for $side {
-            fn table_to_coefficients(clearances: &[i32], message: &mut [u32]) -> Answer {
+            fn table_to_coefficients(k0: u32, clearances: &[i32], message: &mut [u32]) -> Answer {
                 answer(unsafe {
                     $functions::tv_table_to_coefficients(
                         $field,
+                        record(0, 0, k0),
                         clearances.as_ptr(),
                         clearances.len(),
                         message.as_mut_ptr(),
@@ -62,6 +62,7 @@ macro_rules! linked {
             }
 
             fn coefficients_to_table(
+                k0: u32,
                 message: &[u32],
                 table: &mut [i32],
                 work: &mut [u32],
@@ -69,6 +70,7 @@ macro_rules! linked {
                 answer(unsafe {
                     $functions::tv_coefficients_to_table(
                         $field,
+                        record(0, 0, k0),
                         message.as_ptr(),
                         message.len(),
                         table.as_mut_ptr(),
@@ -79,11 +81,17 @@ macro_rules! linked {
                 })
             }
 
-            fn evaluate(depth: u32, message: &[u32], z: &[u32], value: &mut u32) -> Answer {
+            fn evaluate(
+                depth: u32,
+                k0: u32,
+                message: &[u32],
+                z: &[u32],
+                value: &mut u32,
+            ) -> Answer {
                 answer(unsafe {
                     $functions::tv_evaluate(
                         $field,
-                        depth,
+                        record(depth, 0, k0),
                         message.as_ptr(),
                         message.len(),
                         z.as_ptr(),
@@ -97,6 +105,7 @@ macro_rules! linked {
                 let Code {
                     depth,
                     rate,
+                    k0,
                     g,
                     t,
                     t2,
@@ -104,8 +113,7 @@ macro_rules! linked {
                 answer(unsafe {
                     $functions::tv_encode(
                         $field,
-                        depth,
-                        rate,
+                        record(depth, rate, k0),
                         g.as_ptr(),
                         g.len(),
                         t.as_ptr(),
@@ -129,6 +137,7 @@ macro_rules! linked {
                 let Code {
                     depth,
                     rate,
+                    k0,
                     g,
                     t,
                     t2,
@@ -136,8 +145,7 @@ macro_rules! linked {
                 answer(unsafe {
                     $functions::tv_decode(
                         $field,
-                        depth,
-                        rate,
+                        record(depth, rate, k0),
                         g.as_ptr(),
                         g.len(),
                         t.as_ptr(),
@@ -158,6 +166,7 @@ macro_rules! linked {
                 let Folding {
                     level,
                     rate,
+                    k0,
                     t,
                     t2,
                     block,
@@ -166,8 +175,7 @@ macro_rules! linked {
                 answer(unsafe {
                     $functions::tv_fold(
                         $field,
-                        level,
-                        rate,
+                        record(level, rate, k0),
                         t.as_ptr(),
                         t.len(),
                         t2.as_ptr(),
@@ -191,6 +199,7 @@ macro_rules! linked {
                 let Code {
                     depth,
                     rate,
+                    k0,
                     g,
                     t,
                     t2,
@@ -203,8 +212,7 @@ macro_rules! linked {
                 answer(unsafe {
                     $functions::tv_write_opening(
                         $field,
-                        depth,
-                        rate,
+                        record(depth, rate, k0),
                         g.as_ptr(),
                         g.len(),
                         t.as_ptr(),
@@ -230,6 +238,7 @@ macro_rules! linked {
                 let Code {
                     depth,
                     rate,
+                    k0,
                     g,
                     t,
                     t2,
@@ -245,8 +254,7 @@ macro_rules! linked {
                 answer(unsafe {
                     $functions::tv_verify_opening(
                         $field,
-                        depth,
-                        rate,
+                        record(depth, rate, k0),
                         g.as_ptr(),
                         g.len(),
                         t.as_ptr(),
@@ -307,8 +315,7 @@ impl Filling for Library<TV_FIELD_2> {
         let Filled { g, t, t2 } = filled;
         answer(unsafe {
             library::tv_fill_roots(
-                depth,
-                rate,
+                record(depth, rate, 1),
                 g.as_mut_ptr(),
                 g.len(),
                 t.as_mut_ptr(),

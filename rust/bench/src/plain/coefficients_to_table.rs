@@ -7,12 +7,14 @@ use crate::answer::{Input, Refusal};
 
 /// Writes the table into `clearances` and leaves zeros in `work`.
 pub fn coefficients_to_table<R: Reduce>(
+    k0: u32,
     message: &[u32],
     clearances: &mut [i32],
     work: &mut [u32],
 ) -> Result<(), Refusal> {
     let due = message.len();
     judge::power(due)?;
+    judge::one_word(k0)?;
     judge::lengths(&[(clearances.len(), due), (work.len(), due)])?;
     let read = [(Input::Block, message)];
     judge::words::<R>(judge::below::<R>(&read), &read)?;

@@ -5,8 +5,14 @@ use super::residue::{plus_product, times, Reduce};
 use crate::answer::{Input, Refusal};
 
 /// The value at `z`, with word i of `z` for variable i.
-pub fn evaluate<R: Reduce>(depth: u32, message: &[u32], z: &[u32]) -> Result<u32, Refusal> {
+pub fn evaluate<R: Reduce>(
+    depth: u32,
+    k0: u32,
+    message: &[u32],
+    z: &[u32],
+) -> Result<u32, Refusal> {
     let depth = judge::depth(depth)?;
+    judge::one_word(k0)?;
     judge::lengths(&[(message.len(), 1 << depth), (z.len(), depth)])?;
     let read = [(Input::Block, message), (Input::Z, z)];
     judge::words::<R>(judge::below::<R>(&read), &read)?;

@@ -14,6 +14,8 @@ pub struct Folding<'a> {
     pub level: u32,
     /// The rate.
     pub rate: u32,
+    /// The words of a base message.
+    pub k0: u32,
     /// The first diagonal of the level below.
     pub t: &'a [u32],
     /// The second diagonal of the level below.
@@ -49,6 +51,7 @@ fn judge<R: Reduce>(lent: &Folding<'_>, folded: usize) -> Result<(), Refusal> {
         depth: lent.level as usize,
         rate: judge::rate(lent.rate)?,
     };
+    judge::one_word(lent.k0)?;
     let (upper, lower) = (sizes.block(sizes.depth), sizes.block(sizes.depth - 1));
     let t = [(lent.t.len(), lower), (lent.t2.len(), lower)];
     judge::lengths(&t)?;

@@ -26,6 +26,11 @@ pub fn rate(rate: u32) -> Result<usize, Refusal> {
     Ok(rate as usize)
 }
 
+/// Refusal 13: there is no base message of more words here.
+pub fn one_word(k0: u32) -> Result<(), Refusal> {
+    ensure(k0 == 1, Refusal::BaseWords)
+}
+
 /// Refusal 1 of a length that tells the depth.
 pub fn power(length: usize) -> Result<(), Refusal> {
     let legal = length <= 1 << MAX_DEPTH && length.is_power_of_two();
@@ -75,7 +80,7 @@ fn refused(found: Option<Refusal>) -> Result<(), Refusal> {
     found.map_or(Ok(()), Err)
 }
 
-/// Refusals 1 to 6 of a call that lends a code: `others` gives the lengths of all other slices,
+/// Refusals 1 to 6 and 13 of a call that lends a code: `others` gives the lengths of all other slices,
 /// found and due, and `read` holds all other words that are read, in the order of inputs.
 pub fn code<R: Reduce, const N: usize>(
     code: &Code<'_>,
@@ -86,6 +91,7 @@ pub fn code<R: Reduce, const N: usize>(
         depth: depth(code.depth)?,
         rate: rate(code.rate)?,
     };
+    one_word(code.k0)?;
     let due = sizes.diagonals();
     lengths(&[
         (code.g.len(), sizes.rate),

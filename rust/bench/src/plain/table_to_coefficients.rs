@@ -7,10 +7,12 @@ use crate::answer::Refusal;
 
 /// Writes the coefficients into `message`.
 pub fn table_to_coefficients<R: Reduce>(
+    k0: u32,
     clearances: &[i32],
     message: &mut [u32],
 ) -> Result<(), Refusal> {
     judge::power(clearances.len())?;
+    judge::one_word(k0)?;
     judge::lengths(&[(message.len(), clearances.len())])?;
     judge::ensure(all_in_range::<R>(clearances), Refusal::Clearance)?;
     for (word, &x) in message.iter_mut().zip(clearances) {

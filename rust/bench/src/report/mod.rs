@@ -1,5 +1,6 @@
 //! The report: what is measured, and the tables that tell it.
 
+mod blocks;
 mod clock;
 mod filling;
 mod machine;
@@ -9,6 +10,7 @@ mod scan;
 mod table;
 mod times;
 
+use blocks::Blocks;
 use filling::Fillings;
 use measure::{least, median, ratios, Plan};
 use products::Millions;
@@ -43,6 +45,7 @@ struct Measured {
     scans: Vec<Scans>,
     fillings: Vec<Fillings>,
     millions: Millions,
+    blocks: Blocks,
 }
 
 /// Measures everything at one rate and prints one document.
@@ -68,6 +71,11 @@ pub fn print(plan: Plan, rate: usize, depths: &[usize]) {
         println!("### Filling\n\n{}\n\n{table}", filling::ABOUT);
     }
     println!(
+        "### Base messages of two and four words\n\n{}\n\n{}",
+        blocks::ABOUT,
+        measured.blocks.table()
+    );
+    println!(
         "### A million products\n\n{}\n\n{}",
         products::ABOUT,
         products::table(&measured.millions)
@@ -89,6 +97,7 @@ fn measured(plan: Plan, sizes: &[Sizes], lent: &mut [[Inputs; 2]]) -> Measured {
         scans: vec![Scans::new(); sizes.len()],
         fillings: vec![Fillings::new(); sizes.len()],
         millions: Millions::default(),
+        blocks: Blocks::new(sizes),
     };
     for _ in 0..plan.rounds {
         for (case, times) in CASES.iter().zip(&mut measured.times) {
@@ -99,6 +108,7 @@ fn measured(plan: Plan, sizes: &[Sizes], lent: &mut [[Inputs; 2]]) -> Measured {
             filling::add(plan, sizes, &mut measured.fillings);
         }
         products::add(plan, &mut measured.millions);
+        measured.blocks.add(plan);
     }
     measured
 }

@@ -13,6 +13,10 @@ pub const ALL: &[Damage] = &[
     |i, _| i.depth = 0,
     |i, _| i.rate = 1,
     |i, _| i.rate = 17,
+    // 13: plain Rust takes no 2 or 4 either, and is not asked
+    |i, _| i.k0 = 0,
+    |i, _| i.k0 = 3,
+    |i, _| i.k0 = u32::MAX,
     // 3, and 1 where a length tells the depth
     |i, _| i.g.push(1),
     |i, _| longer(&mut i.t),

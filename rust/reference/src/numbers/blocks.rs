@@ -4,8 +4,8 @@
 
 use super::{answer, FIELD, P};
 use crate::answer::Answer;
-use crate::general::jobs::{CodeJobs, GroundJobs, OpeningJobs};
-use crate::general::{GeneralCode, GeneralLevel};
+use crate::jobs::{CodeJobs, GroundJobs, OpeningJobs};
+use crate::lent::{LentCode, LentLevel};
 use crate::parameters::Parameters;
 
 const TWO: Parameters = Parameters {
@@ -13,14 +13,14 @@ const TWO: Parameters = Parameters {
     rate: 2,
     k0: 2,
 };
-const CODE: GeneralCode = GeneralCode {
+const CODE: LentCode = LentCode {
     field: FIELD,
     parameters: TWO,
     g: &[1, 0, 1, 1, 0, 1, 1, 2],
     t: &[1, 2, 3, 4],
     t2: &[5, 6, 7, 8],
 };
-const DEPTH_0: GeneralCode = GeneralCode {
+const DEPTH_0: LentCode = LentCode {
     parameters: Parameters { depth: 0, ..TWO },
     t: &[],
     t2: &[],
@@ -64,7 +64,7 @@ pub fn ground<J: GroundJobs>() {
 
 /// Codeword, decoding, fold, and the rows that are refused.
 pub fn code<J: CodeJobs>() {
-    let encode = |code: GeneralCode| {
+    let encode = |code: LentCode| {
         let mut block = [77; 8];
         (J::encode(code, &MESSAGE, &mut block), block)
     };
@@ -81,7 +81,7 @@ pub fn code<J: CodeJobs>() {
         block[j] += 1;
         assert_eq!(decode(&block), (answer(8, 0, 0), [77; 4]));
     }
-    let level = GeneralLevel {
+    let level = LentLevel {
         field: FIELD,
         parameters: TWO,
         t: CODE.t,
@@ -92,7 +92,7 @@ pub fn code<J: CodeJobs>() {
     assert_eq!((done, folded), (Answer::DONE, [7, 10, 17, 27]));
 
     // Rows 1 2 and 2 4 depend on each other, whatever follows them. A zero alone is no reason.
-    let g = |g| encode(GeneralCode { g, ..CODE }).0;
+    let g = |g| encode(LentCode { g, ..CODE }).0;
     assert_eq!(g(&[1, 2, 1, 0, 2, 4, 0, 1]), answer(5, 0, 0));
     assert_eq!(g(&[0, 0, 1, 0, 0, 0, 0, 1]), answer(5, 0, 0));
     assert_eq!(g(&[0, 1, 0, 0, 1, 0, 0, 0]), Answer::DONE);

@@ -3,10 +3,11 @@
 //! The message 9 0 0 .. is the polynomial 9: so are its values, the entries of its table, the words of
 //! its codeword, and every fold of that.
 
-use super::{answer, level, FIELD, P};
+use super::{answer, at, level, ANY, FIELD, P};
 use crate::answer::Answer;
-use crate::code::LentCode;
 use crate::jobs::{CodeJobs, GroundJobs, OpeningJobs};
+use crate::lent::LentCode;
+use crate::parameters::Parameters;
 
 const LEGAL: [usize; 2] = [17, 20];
 
@@ -29,8 +30,7 @@ impl Row {
         let [t, t2] = &self.0;
         LentCode {
             field: FIELD,
-            depth: depth as u32,
-            rate: 2,
+            parameters: Parameters::one(depth as u32, 2),
             g: &[1, 1],
             t,
             t2,
@@ -42,25 +42,25 @@ pub fn ground<J: GroundJobs>() {
     for depth in LEGAL {
         let entries = vec![9; 1 << depth];
         let mut written = vec![77; 1 << depth];
-        let done = J::table_to_coefficients(FIELD, &entries, &mut written);
+        let done = J::table_to_coefficients(FIELD, ANY, &entries, &mut written);
         assert_eq!((done, written), (Answer::DONE, message(depth)));
         let (mut table, mut work) = (vec![77; 1 << depth], vec![77; 1 << depth]);
-        let done = J::coefficients_to_table(FIELD, &message(depth), &mut table, &mut work);
+        let done = J::coefficients_to_table(FIELD, ANY, &message(depth), &mut table, &mut work);
         assert_eq!((done, table), (Answer::DONE, entries));
         assert!(work.iter().all(|&word| word == 0));
         // 9 + 7 X, where X is the last variable.
         let mut line = message(depth);
         line[1 << (depth - 1)] = 7;
         let mut value = 77;
-        let done = J::evaluate(FIELD, depth as u32, &line, &vec![3; depth], &mut value);
+        let done = J::evaluate(FIELD, at(depth as u32), &line, &vec![3; depth], &mut value);
         assert_eq!((done, value), (Answer::DONE, 30));
     }
     let mut long = vec![77; 1 << 21];
-    let refused = J::table_to_coefficients(FIELD, &vec![9; 1 << 21], &mut long);
+    let refused = J::table_to_coefficients(FIELD, ANY, &vec![9; 1 << 21], &mut long);
     assert_eq!(refused, answer(1, 0, 0));
     assert!(long.iter().all(|&word| word == 77));
     let mut value = 77;
-    let refused = J::evaluate(FIELD, 21, &message(21), &[3; 21], &mut value);
+    let refused = J::evaluate(FIELD, at(21), &message(21), &[3; 21], &mut value);
     assert_eq!((refused, value), (answer(1, 0, 0), 77));
 }
 

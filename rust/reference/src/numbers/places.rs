@@ -1,10 +1,11 @@
 //! Where 4, 5 and 6 are: the first word that offends, in the first input that has one. Every place is
 //! written down by hand.
 
-use super::{answer, level, BLOCK, CODE, FIELD, OPENING, P};
+use super::{answer, at, level, ANY, BLOCK, CODE, FIELD, OPENING, P};
 use crate::answer::{Answer, Reading};
-use crate::code::LentCode;
 use crate::jobs::{CodeJobs, GroundJobs, OpeningJobs};
+use crate::lent::LentCode;
+use crate::parameters::Parameters;
 
 /// Every code here is made of constants.
 type Code = LentCode<'static>;
@@ -12,8 +13,7 @@ type Code = LentCode<'static>;
 /// At rate 2 level 0 of the diagonals has 2 words, level 1 has words 2 to 5.
 const DEPTH_2: Code = LentCode {
     field: FIELD,
-    depth: 2,
-    rate: 2,
+    parameters: Parameters::one(2, 2),
     g: &[1, 1],
     t: &[2, 3, 4, 5, 6, 7],
     t2: &[8, 9, 10, 11, 12, 13],
@@ -32,7 +32,7 @@ pub fn ground<J: GroundJobs>() {
     }
     let back = |message: [u32; 4]| {
         let (mut table, mut work) = ([77; 4], [77; 4]);
-        let refused = J::coefficients_to_table(FIELD, &message, &mut table, &mut work);
+        let refused = J::coefficients_to_table(FIELD, ANY, &message, &mut table, &mut work);
         assert_eq!((table, work), ([77; 4], [77; 4]));
         refused
     };
@@ -42,7 +42,7 @@ pub fn ground<J: GroundJobs>() {
     assert_eq!(back([3, P, 1, P]), answer(4, 1, 4));
     let evaluate = |message: [u32; 4], z: [u32; 2]| {
         let mut value = 77;
-        let refused = J::evaluate(FIELD, 2, &message, &z, &mut value);
+        let refused = J::evaluate(FIELD, at(2), &message, &z, &mut value);
         assert_eq!(value, 77);
         refused
     };

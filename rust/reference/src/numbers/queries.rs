@@ -3,8 +3,9 @@
 use super::deep::{message, Row};
 use super::{answer, BLOCK, CODE, DEPTH_0, OPENING, P};
 use crate::answer::Answer;
-use crate::code::LentCode;
 use crate::jobs::OpeningJobs;
+use crate::lent::LentCode;
+use crate::parameters::Parameters;
 
 pub fn opening<J: OpeningJobs>() {
     repeated::<J>();
@@ -51,10 +52,16 @@ fn repeated<J: OpeningJobs>() {
 fn first_refused<J: OpeningJobs>() {
     let refused =
         |code, block: &[u32]| J::verify_opening(code, block, &[3], 26, &[4], &[1, 1], &OPENING);
-    let code = LentCode { depth: 21, ..CODE };
+    let code = LentCode {
+        parameters: Parameters::one(21, 2),
+        ..CODE
+    };
     assert_eq!(refused(CODE, &BLOCK), answer(11, 0, 0));
     assert_eq!(refused(code, &BLOCK), answer(1, 0, 0));
-    let code = LentCode { rate: 17, ..CODE };
+    let code = LentCode {
+        parameters: Parameters::one(1, 17),
+        ..CODE
+    };
     assert_eq!(refused(code, &BLOCK), answer(2, 0, 0));
     assert_eq!(refused(CODE, &BLOCK[1..]), answer(3, 0, 0));
     let block = [BLOCK[0], P, BLOCK[2], BLOCK[3]];

@@ -1,18 +1,18 @@
 //! Numbers of the second field and of filling it, computed outside with plain integers.
 
-use super::{answer, level, read};
+use super::{answer, at, level, read, ANY};
 use crate::answer::{Answer, Reading};
-use crate::code::LentCode;
 use crate::field::Field;
 use crate::jobs::{CodeJobs, GroundJobs, OpeningJobs};
+use crate::lent::LentCode;
+use crate::parameters::Parameters;
 
 const FIELD: Field = Field::Second;
 const P: u32 = 2_013_265_921;
 /// The code of the first field's numbers, with -2 and -3 of this one.
 const CODE: LentCode = LentCode {
     field: FIELD,
-    depth: 1,
-    rate: 2,
+    parameters: Parameters::one(1, 2),
     g: &[1, 1],
     t: &[2, 3],
     t2: &[2_013_265_919, 2_013_265_918],
@@ -30,7 +30,7 @@ const LARGE_MESSAGE: [u32; 2] = [2_013_265_919, 1_006_632_961];
 const LARGE_BLOCK: [u32; 4] = [503_316_479, 1_476_395_011, 251_658_239, 469_762_051];
 /// Depth 2 and rate 2, filled: the roots of order 4 and 8 are 1728404513 and 1592366214.
 const FILLED: LentCode = LentCode {
-    depth: 2,
+    parameters: Parameters::one(2, 2),
     t: &[
         1,
         1_728_404_513,
@@ -88,7 +88,7 @@ pub fn ground<J: GroundJobs>() {
     let coefficients = |table: [i32; 4]| {
         let mut message = [77; 4];
         (
-            J::table_to_coefficients(FIELD, &table, &mut message),
+            J::table_to_coefficients(FIELD, ANY, &table, &mut message),
             message,
         )
     };
@@ -97,20 +97,20 @@ pub fn ground<J: GroundJobs>() {
     let message = [1_006_632_961, 2_013_265_920, 1_006_632_959, 1_000_000_002];
     assert_eq!(coefficients(table), (Answer::DONE, message));
     let (mut back, mut work) = ([77; 4], [77; 4]);
-    let done = J::coefficients_to_table(FIELD, &message, &mut back, &mut work);
+    let done = J::coefficients_to_table(FIELD, ANY, &message, &mut back, &mut work);
     assert_eq!((done, back, work), (Answer::DONE, table, [0; 4]));
     for clearance in [1_006_632_961, -1_006_632_961, 1_073_741_823, -1_073_741_823] {
         let refused = coefficients([3, 5, clearance, 10]);
         assert_eq!(refused, (answer(9, 0, 0), [77; 4]));
         let mut message = [77];
-        let done = J::table_to_coefficients(Field::First, &[clearance], &mut message);
+        let done = J::table_to_coefficients(Field::First, ANY, &[clearance], &mut message);
         assert_eq!(done, Answer::DONE);
     }
 
     let evaluate = |message: &[u32], z: &[u32]| {
         let mut value = 77;
         (
-            J::evaluate(FIELD, z.len() as u32, message, z, &mut value),
+            J::evaluate(FIELD, at(z.len() as u32), message, z, &mut value),
             value,
         )
     };
@@ -228,7 +228,7 @@ fn filling<J: CodeJobs>() {
     let fill = |depth, rate, lengths: [usize; 3]| {
         let mut rows = lengths.map(|length| vec![u32::MAX; length]);
         let [g, t, t2] = &mut rows;
-        let answer = J::fill_roots(depth, rate, g, t, t2);
+        let answer = J::fill_roots(Parameters::one(depth, rate), g, t, t2);
         let untouched = rows.iter().flatten().all(|&word| word == u32::MAX);
         assert!(answer.number == 0 || untouched);
         (answer, rows)

@@ -2,9 +2,9 @@
 
 use crate::plain::{generator, narrow, product, wide};
 use crate::small_layouts;
-use tvarchula_reference::general::jobs::CodeJobs;
 use tvarchula_reference::sample::{Rng, Style, STYLES};
-use tvarchula_reference::{over_both, Answer, Field, GeneralCode, GeneralLevel, Layout, Reference};
+use tvarchula_reference::CodeJobs;
+use tvarchula_reference::{over_both, Answer, Field, Layout, LentCode, LentLevel, Reference};
 
 over_both!(
     a_codeword_is_the_message_times_the_block_matrix
@@ -14,8 +14,8 @@ over_both!(
     a_fold_is_the_line
 );
 
-fn lent<'a, const P: u32>(layout: Layout, [g, t, t2]: &'a [Vec<u32>; 3]) -> GeneralCode<'a> {
-    GeneralCode {
+fn lent<'a, const P: u32>(layout: Layout, [g, t, t2]: &'a [Vec<u32>; 3]) -> LentCode<'a> {
+    LentCode {
         field: Field::of(P),
         parameters: layout.parameters(),
         g,
@@ -24,14 +24,14 @@ fn lent<'a, const P: u32>(layout: Layout, [g, t, t2]: &'a [Vec<u32>; 3]) -> Gene
     }
 }
 
-fn encoded(lent: GeneralCode, layout: Layout, message: &[u32]) -> Vec<u32> {
+fn encoded(lent: LentCode, layout: Layout, message: &[u32]) -> Vec<u32> {
     let mut block = vec![u32::MAX; layout.top_block()];
     assert_eq!(Reference::encode(lent, message, &mut block), Answer::DONE);
     block
 }
 
 /// The number, and the message that stands in the buffer. The work buffer is zero.
-fn decoded(lent: GeneralCode, layout: Layout, block: &[u32]) -> (u32, Vec<u32>) {
+fn decoded(lent: LentCode, layout: Layout, block: &[u32]) -> (u32, Vec<u32>) {
     let mut message = vec![u32::MAX; layout.message()];
     let mut work = vec![u32::MAX; layout.top_block()];
     let answer = Reference::decode(lent, block, &mut message, &mut work);
@@ -44,7 +44,7 @@ fn a_codeword_is_the_message_times_the_block_matrix<const P: u32>() {
     let mut rng = Rng::new(Field::of(P), 50);
     for layout in small_layouts() {
         for style in STYLES {
-            let code = rng.general_code(&layout, style);
+            let code = rng.code(&layout, style);
             let matrix = generator(P.into(), &layout, &code);
             let message = rng.words(layout.message(), style);
             let due = narrow(&product(P.into(), &wide(&message), &matrix));
@@ -57,7 +57,7 @@ fn decoding_undoes_encoding<const P: u32>() {
     let mut rng = Rng::new(Field::of(P), 51);
     for layout in small_layouts() {
         for style in STYLES {
-            let code = rng.general_code(&layout, style);
+            let code = rng.code(&layout, style);
             let matrix = generator(P.into(), &layout, &code);
             let message = rng.words(layout.message(), style);
             let block = narrow(&product(P.into(), &wide(&message), &matrix));
@@ -88,7 +88,7 @@ fn a_block_with_one_other_word_is_no_codeword<const P: u32>() {
     let mut rng = Rng::new(Field::of(P), 52);
     for layout in small_layouts().filter(|layout| layout.k0 > 1) {
         let style = rng.pick(&STYLES);
-        let mut code = rng.general_code(&layout, style);
+        let mut code = rng.code(&layout, style);
         code[0] = two_apart::<P>(&mut rng, &layout);
         let lent = lent::<P>(layout, &code);
         let message = rng.words(layout.message(), style);
@@ -111,7 +111,7 @@ fn a_sum_of_codewords_decodes_to_the_sum<const P: u32>() {
         sums.map(|word| word as u32).collect()
     };
     for layout in small_layouts() {
-        let code = rng.general_code(&layout, Style::Extreme);
+        let code = rng.code(&layout, Style::Extreme);
         let lent = lent::<P>(layout, &code);
         let messages = [0; 2].map(|_| rng.words(layout.message(), Style::Random));
         let [a, b] = [0, 1].map(|k: usize| encoded(lent, layout, &messages[k]));
@@ -129,7 +129,7 @@ fn a_fold_is_the_line<const P: u32>() {
         let (t, t2) = rng.diagonals(lower, Style::Extreme);
         let block = rng.words(2 * lower, Style::Random);
         let a = rng.words(1, Style::Extreme)[0];
-        let lent = GeneralLevel {
+        let lent = LentLevel {
             field: Field::of(P),
             parameters: layout.parameters(),
             t: &t,

@@ -1,8 +1,8 @@
 //! An honest opening, as the jobs write it.
 
-use tvarchula_reference::general::jobs::{CodeJobs, OpeningJobs};
 use tvarchula_reference::sample::{Rng, Style};
-use tvarchula_reference::{Answer, Field, GeneralCode, Layout, Reference};
+use tvarchula_reference::{Answer, Field, Layout, LentCode, Reference};
+use tvarchula_reference::{CodeJobs, OpeningJobs};
 
 pub struct Honest<const P: u32> {
     pub layout: Layout,
@@ -25,7 +25,7 @@ impl<const P: u32> Honest<P> {
         };
         let mut honest = Honest {
             layout,
-            code: rng.general_code(&layout, style),
+            code: rng.code(&layout, style),
             message: rng.words(layout.message(), style),
             block: Vec::new(),
             z: rng.words(layout.point(), style),
@@ -39,8 +39,8 @@ impl<const P: u32> Honest<P> {
         honest
     }
 
-    pub fn lent(&self) -> GeneralCode<'_> {
-        GeneralCode {
+    pub fn lent(&self) -> LentCode<'_> {
+        LentCode {
             field: Field::of(P),
             parameters: self.layout.parameters(),
             g: &self.code[0],

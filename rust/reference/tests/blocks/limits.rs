@@ -4,8 +4,8 @@
 //! The message 9 0 0 .. is the polynomial 9, and with first columns 1 0 .. each of its codewords holds
 //! 9 times the first row: here 9 everywhere.
 
-use tvarchula_reference::general::jobs::{CodeJobs, GroundJobs, OpeningJobs};
-use tvarchula_reference::{Answer, Field, GeneralCode, GeneralLevel, Layout, Reference};
+use tvarchula_reference::{Answer, Field, Layout, LentCode, LentLevel, Reference};
+use tvarchula_reference::{CodeJobs, GroundJobs, OpeningJobs};
 
 const FIELD: Field = Field::First;
 
@@ -36,8 +36,8 @@ impl Case {
         }
     }
 
-    fn lent(&self) -> GeneralCode<'_> {
-        GeneralCode {
+    fn lent(&self) -> LentCode<'_> {
+        LentCode {
             field: FIELD,
             parameters: self.layout.parameters(),
             g: &self.code[0],
@@ -49,7 +49,7 @@ impl Case {
     fn fold(&self) -> Answer {
         let half = self.block.len() / 2;
         let [t, t2] = [2, 3].map(|word| vec![word; half]);
-        let lent = GeneralLevel {
+        let lent = LentLevel {
             field: FIELD,
             parameters: self.layout.parameters(),
             t: &t,

@@ -4,12 +4,10 @@
 mod code;
 mod honest;
 mod limits;
-mod one;
 mod opening;
 mod order;
 mod plain;
 mod rows;
-mod same;
 mod verdicts;
 mod words;
 

@@ -3,8 +3,8 @@
 use crate::honest::Honest;
 use crate::plain;
 use crate::small_layouts;
-use tvarchula_reference::general::jobs::GroundJobs;
 use tvarchula_reference::sample::{Rng, Style, STYLES};
+use tvarchula_reference::GroundJobs;
 use tvarchula_reference::{over_both, Answer, Field, Layout, Reference};
 
 over_both!(

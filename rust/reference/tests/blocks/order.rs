@@ -1,8 +1,8 @@
 //! Among 1, 2, 13 and 3 the first in this order is given, however many apply; with an illegal k0 depth
 //! 20 is no reason for 1.
 
-use tvarchula_reference::general::jobs::{CodeJobs, GroundJobs, OpeningJobs};
-use tvarchula_reference::{Field, GeneralCode, GeneralLevel, Parameters, Reference};
+use tvarchula_reference::{CodeJobs, GroundJobs, OpeningJobs};
+use tvarchula_reference::{Field, LentCode, LentLevel, Parameters, Reference};
 
 const FIELD: Field = Field::Second;
 
@@ -15,14 +15,14 @@ const DEEP: [(u32, u32); 3] = [(1, 21), (2, 20), (4, 19)];
 /// lengths never fit.
 fn coded(parameters: Parameters) -> [u32; 5] {
     let (g, t) = (&[1; 3], &[1; 3]);
-    let code = GeneralCode {
+    let code = LentCode {
         field: FIELD,
         parameters,
         g,
         t,
         t2: t,
     };
-    let level = GeneralLevel {
+    let level = LentLevel {
         field: FIELD,
         parameters,
         t,

@@ -1,8 +1,8 @@
 //! Refusal 5: of several rows the first k0 columns have no inverse, of one row some word is zero.
 
-use tvarchula_reference::general::jobs::{CodeJobs, OpeningJobs};
 use tvarchula_reference::sample::{Rng, Style, STYLES};
-use tvarchula_reference::{over_both, Answer, Field, GeneralCode, Layout, Reference};
+use tvarchula_reference::{over_both, Answer, Field, Layout, LentCode, Reference};
+use tvarchula_reference::{CodeJobs, OpeningJobs};
 
 over_both!(every_rank every_job two_rows four_rows_of_zeros_and_ones one_row);
 
@@ -15,7 +15,7 @@ fn places(answer: Answer) -> (u32, u32, u32) {
 
 /// Encoding zeros at depth 0 under these rows.
 fn encode<const P: u32>(layout: Layout, g: &[u32]) -> (u32, u32, u32) {
-    let lent = GeneralCode {
+    let lent = LentCode {
         field: Field::of(P),
         parameters: layout.parameters(),
         g,
@@ -60,9 +60,9 @@ fn every_job<const P: u32>() {
             k0,
         };
         for rank in 0..k0 {
-            let [_, t, _] = rng.general_code(&layout, Style::Random);
+            let [_, t, _] = rng.code(&layout, Style::Random);
             let g = rng.base_rows(&layout, rank, Style::Random);
-            let lent = GeneralCode {
+            let lent = LentCode {
                 field: Field::of(P),
                 parameters: layout.parameters(),
                 g: &g,

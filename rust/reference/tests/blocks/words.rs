@@ -1,11 +1,11 @@
 //! Lengths and words of p or more: of every input the length off by one is 3, and the last word is named
 //! by 4 with its index.
 
-use tvarchula_reference::general::jobs::{CodeJobs, GroundJobs, OpeningJobs};
 use tvarchula_reference::sample::{Rng, Style};
 use tvarchula_reference::{
-    over_both, Answer, Field, GeneralCode, GeneralLevel, Layout, Parameters, Reference,
+    over_both, Answer, Field, Layout, LentCode, LentLevel, Parameters, Reference,
 };
+use tvarchula_reference::{CodeJobs, GroundJobs, OpeningJobs};
 
 over_both!(the_last_word_of_every_input one_word_more_or_less folding evaluating);
 
@@ -39,10 +39,7 @@ impl Inputs {
         let layout = Layout { depth, rate, k0 };
         let (lengths, message) = lengths(numbers);
         let mut words = lengths.map(|length| rng.words(length, Style::Random));
-        for (lent, legal) in words
-            .iter_mut()
-            .zip(rng.general_code(&layout, Style::Random))
-        {
+        for (lent, legal) in words.iter_mut().zip(rng.code(&layout, Style::Random)) {
             assert_eq!(legal.len(), lent.len());
             *lent = legal;
         }
@@ -54,8 +51,8 @@ impl Inputs {
         }
     }
 
-    fn lent<const P: u32>(&self) -> GeneralCode<'_> {
-        GeneralCode {
+    fn lent<const P: u32>(&self) -> LentCode<'_> {
+        LentCode {
             field: Field::of(P),
             parameters: self.layout.parameters(),
             g: &self.words[0],
@@ -162,7 +159,7 @@ fn folding<const P: u32>() {
         let fold = |t: usize, t2: usize, block: usize, out: usize, challenge: u32| {
             let (t, t2) = (vec![2; t], vec![3; t2]);
             let parameters = Parameters { depth, rate, k0 };
-            let lent = GeneralLevel {
+            let lent = LentLevel {
                 field: Field::of(P),
                 parameters,
                 t: &t,

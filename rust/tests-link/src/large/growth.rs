@@ -10,6 +10,7 @@ use tvarchula_reference::Field;
 pub struct Growth {
     field: Field,
     case: Case,
+    k0: usize,
     rate: Option<usize>,
     depths: [usize; 2],
     /// The later least time by the earlier.
@@ -36,8 +37,9 @@ impl fmt::Display for Growth {
         let law = if self.case.passes() { "n log n" } else { "n" };
         write!(
             f,
-            "{:>6} {from:>5} to {to:>2} {rate:>4} {:<24} {:>8.2}   {law}: {:.2}",
+            "{:>6} {from:>5} to {to:>2} {:>2} {rate:>4} {:<24} {:>8.2}   {law}: {:.2}",
             field_number(self.field),
+            self.k0,
             self.case.name(),
             self.measured,
             self.due()
@@ -45,16 +47,16 @@ impl fmt::Display for Growth {
     }
 }
 
-/// The growth of every case and rate from each depth to the next one that was measured.
+/// The growth of every case, rate and k0 from each depth to the next one that was measured.
 pub fn growth(lines: &[Line]) -> Vec<Growth> {
     let next = |(place, line): (usize, &Line)| {
-        let same = |later: &&Line| {
-            (later.field, later.case, later.rate) == (line.field, line.case, line.rate)
-        };
+        let of = |line: &Line| (line.field, line.case, line.k0, line.rate);
+        let same = |later: &&Line| of(later) == of(line);
         let later = lines[place + 1..].iter().find(same)?;
         Some(Growth {
             field: line.field,
             case: line.case,
+            k0: line.k0,
             rate: line.rate,
             depths: [line.depth, later.depth],
             measured: later.time.least.as_secs_f64() / line.time.least.as_secs_f64(),
@@ -76,6 +78,7 @@ mod tests {
             field: Field::First,
             case,
             depth,
+            k0: 1,
             rate: Some(8),
             answer: Answer::DONE,
             time: Time {

@@ -23,6 +23,8 @@ pub struct Line {
     pub case: Case,
     /// At which depth; for folding the upper level.
     pub depth: usize,
+    /// With how many words of a base message.
+    pub k0: usize,
     /// At which rate, where the job has one.
     pub rate: Option<usize>,
     /// What both sides answered.
@@ -38,7 +40,7 @@ pub struct Line {
 
 /// The heads of the lines.
 pub const HEADS: &str =
-    "field depth rate job                       answer  median ms  least ms  lent bytes  stack bytes";
+    "field depth k0 rate job                       answer  median ms  least ms  lent bytes  stack bytes";
 
 impl fmt::Display for Line {
     fn fmt(&self, f: &mut fmt::Formatter) -> fmt::Result {
@@ -50,9 +52,10 @@ impl fmt::Display for Line {
         let [median, least] = [self.time.median, self.time.least].map(|t| t.as_secs_f64() * 1e3);
         write!(
             f,
-            "{:>5} {:>5} {:>4} {:<24} {answer:>7} {median:>10.3} {least:>9.3} {:>11} {:>12}",
+            "{:>5} {:>5} {:>2} {:>4} {:<24} {answer:>7} {median:>10.3} {least:>9.3} {:>11} {:>12}",
             field_number(self.field),
             self.depth,
+            self.k0,
             known(self.rate),
             self.case.name(),
             self.lent,

@@ -45,12 +45,22 @@ struct Large<'a> {
     tell: &'a mut dyn FnMut(&Line),
 }
 
-/// All cases over a field at these depths and rates, told one by one. Stops at the first difference.
+/// The sizes of the cases.
+#[derive(Clone, Debug)]
+pub struct Sizes {
+    /// Variables of a message: its depth for base messages of one word, else that and the low variables.
+    pub variables: Vec<usize>,
+    /// Rates.
+    pub rates: Vec<usize>,
+    /// Words of a base message.
+    pub k0s: Vec<usize>,
+}
+
+/// All cases over a field at these sizes, told one by one. Stops at the first difference.
 pub fn run(
     [left, right]: [Runner; 2],
     field: Field,
-    depths: &[usize],
-    rates: &[usize],
+    sizes: &Sizes,
     tell: &mut dyn FnMut(&Line),
 ) -> Result<(), Difference> {
     let mut large = Large {
@@ -61,10 +71,16 @@ pub fn run(
         known: BTreeMap::new(),
         tell,
     };
-    for &depth in depths {
-        large.without_rate(depth)?;
-        for &rate in rates {
-            large.with_rate(Shape::random(depth, rate))?;
+    for &variables in &sizes.variables {
+        for &k0 in &sizes.k0s {
+            let Some(depth) = variables.checked_sub(k0.trailing_zeros() as usize) else {
+                continue;
+            };
+            large.without_rate(Shape::random(depth, 2).with(k0))?;
+            // Folding needs a level.
+            for &rate in sizes.rates.iter().filter(|_| depth > 0) {
+                large.with_rate(Shape::random(depth, rate).with(k0))?;
+            }
         }
     }
     Ok(())
@@ -72,11 +88,10 @@ pub fn run(
 
 impl Large<'_> {
     /// The jobs that are lent no rate.
-    fn without_rate(&mut self, depth: usize) -> Result<(), Difference> {
-        let shape = Shape::random(depth, 2);
+    fn without_rate(&mut self, shape: Shape) -> Result<(), Difference> {
         for case in [Case::ToCoefficients, Case::ToTable, Case::Evaluate] {
             let call = formed(case.job(), shape, &mut self.rng);
-            self.one(case, depth, call)?;
+            self.one(case, shape.sizes.depth, call)?;
         }
         Ok(())
     }
@@ -84,7 +99,7 @@ impl Large<'_> {
     /// The jobs of a code: a message, its codeword, and its opening at one point.
     fn with_rate(&mut self, shape: Shape) -> Result<(), Difference> {
         self.known.clear();
-        if self.rng.field() == Field::Second && shape.sizes.rate.is_power_of_two() {
+        if self.rng.field() == Field::Second && fills(shape) {
             let call = formed(Job::FillRoots, shape, &mut self.rng);
             self.one(Case::Fill, shape.sizes.depth, call)?;
         }
@@ -176,7 +191,11 @@ impl Large<'_> {
             field: call.lent.field,
             case,
             depth,
-            rate: call.lent.rate.map(|rate| rate as usize),
+            rate: case
+                .job()
+                .judges_rate()
+                .then_some(call.lent.rate() as usize),
+            k0: call.lent.k0() as usize,
             answer,
             time,
             lent: call.bytes(),
@@ -185,6 +204,11 @@ impl Large<'_> {
         (self.tell)(&line);
         Ok(call)
     }
+}
+
+/// Whether its code can be filled, over the second field.
+fn fills(shape: Shape) -> bool {
+    shape.sizes.k0 == 1 && shape.sizes.rate.is_power_of_two()
 }
 
 /// The stack of reading one word: what it takes to call.
@@ -228,38 +252,49 @@ mod tests {
 
     const REFERENCE: Runner = any::<Reference>;
 
-    fn lines(left: Runner, depths: &[usize], rates: &[usize]) -> Result<Vec<Line>, Difference> {
+    fn lines(left: Runner, variables: &[usize], rates: &[usize]) -> Result<Vec<Line>, Difference> {
         let mut lines = Vec::new();
         let mut tell = |line: &Line| lines.push(*line);
+        let sizes = Sizes {
+            variables: variables.to_vec(),
+            rates: rates.to_vec(),
+            k0s: vec![1, 4],
+        };
         for field in Field::ALL {
-            run([left, REFERENCE], field, depths, rates, &mut tell)?;
+            run([left, REFERENCE], field, &sizes, &mut tell)?;
         }
         Ok(lines)
     }
 
     #[test]
     fn every_case_once_for_each_rate_that_it_has() {
-        let lines = lines(REFERENCE, &[1, 5], &[2, 3]).expect("one implementation");
+        let lines = lines(REFERENCE, &[3, 5], &[2, 3]).expect("one implementation");
         for case in Case::ALL {
             for field in Field::ALL {
                 let of_case = lines
                     .iter()
                     .filter(|line| (line.field, line.case) == (field, case));
-                let found: Vec<_> = of_case.map(|line| (line.depth, line.rate)).collect();
+                let found: Vec<_> = of_case
+                    .map(|line| (line.depth, line.k0, line.rate))
+                    .collect();
+                let all = [(3, 1), (1, 4), (5, 1), (3, 4)];
                 let due = match case.job() {
                     Job::FillRoots if field == Field::First => vec![],
-                    Job::FillRoots => vec![(1, Some(2)), (5, Some(2))],
-                    job if job < Job::Encode => vec![(1, None), (5, None)],
-                    _ => [1, 5]
-                        .map(|depth| [(depth, Some(2)), (depth, Some(3))])
+                    Job::FillRoots => vec![(3, 1, Some(2)), (5, 1, Some(2))],
+                    job if job < Job::Encode => all.map(|(depth, k0)| (depth, k0, None)).to_vec(),
+                    _ => all
+                        .map(|(depth, k0)| [2, 3].map(|rate| (depth, k0, Some(rate))))
                         .concat(),
                 };
                 assert_eq!(found, due, "{field:?} {case:?}");
             }
         }
         // By the lengths of the order: g, T, T', message and block.
-        let encode = lines.iter().find(|line| line.case == Case::Encode).unwrap();
-        assert_eq!(encode.lent, 4 * (2 + 2 + 2 + 2 + 4));
+        let encode = lines.iter().filter(|line| line.case == Case::Encode);
+        let lent: Vec<usize> = encode.map(|line| line.lent).collect();
+        assert_eq!(lent[0], 4 * (2 + 14 + 14 + 8 + 16));
+        // One level over four rows of eight words.
+        assert_eq!(lent[2], 4 * (32 + 8 + 8 + 8 + 16));
     }
 
     #[test]

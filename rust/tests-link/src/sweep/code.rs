@@ -1,5 +1,6 @@
 //! Encoding, decoding, folding.
 
+use super::blocks as rows;
 use super::{filled, good, illegal_sizes, once_deep, pairs, places, random, singles, Swept};
 use crate::call::{Call, Input};
 use crate::compare::Comparison;
@@ -24,6 +25,7 @@ pub fn run(c: &mut Comparison, field: Field, scale: usize) -> Swept {
             pairs(c, job, Shape::any(0, 2, &mut rng), &mut rng)?;
         }
         places::run(c, job, &mut rng)?;
+        rows::run(c, job, &mut rng)?;
         filled(c, job, &mut rng)?;
     }
     blocks(c, 2_000 * scale, &mut rng)?;
@@ -37,13 +39,14 @@ pub fn run(c: &mut Comparison, field: Field, scale: usize) -> Swept {
     Ok(())
 }
 
-/// Depths 13 to 16 and rate 16 at the last, once each, a block of that size that is no codeword, and the
+/// Depths 13 and 15 and, at rate 16, 16, once each, a block of that size that is no codeword, and the
 /// last place of each input of that size.
 pub fn sixteen(c: &mut Comparison, field: Field) -> Swept {
     let mut rng = Rng::new(field, 201);
     for job in ALL {
-        for (depth, rate) in [(13, 5), (14, 3), (15, 2)] {
-            good(c, job, Shape::any(depth, rate, &mut rng), &mut rng)?;
+        for (depth, rate, k0) in [(13, 5, 1), (13, 3, 2), (13, 2, 4), (15, 2, 1)] {
+            let shape = Shape::any(depth, rate, &mut rng).with(k0);
+            good(c, job, shape, &mut rng)?;
         }
         let mut call = good(c, job, Shape::random(16, 16), &mut rng)?;
         places::last(c, &call, &mut rng)?;
@@ -60,7 +63,8 @@ pub fn sixteen(c: &mut Comparison, field: Field) -> Swept {
 
 /// The deepest calls of every run.
 pub fn deep(c: &mut Comparison, field: Field) -> Swept {
-    once_deep(c, &ALL, &mut Rng::new(field, 202))
+    once_deep(c, &ALL, &mut Rng::new(field, 202))?;
+    rows::limits(c, &ALL, field)
 }
 
 /// All depths 0 to 12 (levels 1 to 12) with all rates, good and with some damage; of the largest blocks
@@ -81,21 +85,34 @@ fn every_size(c: &mut Comparison, job: Job, rng: &mut Rng) -> Swept {
 /// Blocks to decode: every single word of a codeword changed, and any blocks.
 fn blocks(c: &mut Comparison, count: usize, rng: &mut Rng) -> Swept {
     let field = rng.field();
-    for (depth, rate) in [
-        (0, 2),
-        (0, 16),
-        (1, 2),
-        (1, 3),
-        (2, 2),
-        (2, 4),
-        (3, 2),
-        (3, 5),
-        (3, 8),
-        (4, 3),
-        (5, 4),
-        (6, 2),
+    for (depth, rate, k0) in [
+        (0, 2, 1),
+        (0, 16, 1),
+        (1, 2, 1),
+        (1, 3, 1),
+        (2, 2, 1),
+        (2, 4, 1),
+        (3, 2, 1),
+        (3, 5, 1),
+        (3, 8, 1),
+        (4, 3, 1),
+        (5, 4, 1),
+        (6, 2, 1),
+        (0, 2, 2),
+        (0, 3, 2),
+        (1, 2, 2),
+        (2, 4, 2),
+        (3, 3, 2),
+        (4, 2, 2),
+        (0, 2, 4),
+        (0, 16, 4),
+        (1, 2, 4),
+        (1, 4, 4),
+        (2, 3, 4),
+        (3, 2, 4),
     ] {
-        let call = good(c, Job::Decode, Shape::any(depth, rate, rng), rng)?;
+        let shape = Shape::any(depth, rate, rng).with(k0);
+        let call = good(c, Job::Decode, shape, rng)?;
         for j in 0..call.lent.words(Input::Block).len() {
             let mut call = call.clone();
             call.add_note(&format!("word {j} moved"));
@@ -107,9 +124,10 @@ fn blocks(c: &mut Comparison, count: usize, rng: &mut Rng) -> Swept {
         }
     }
     for _ in 0..count {
-        let (depth, rate) = (rng.below(4), 2 + rng.below(5));
+        let (depth, rate, k0) = (rng.below(4), 2 + rng.below(5), rng.pick(&[1, 1, 2, 4]));
         // Any block: mostly none is a codeword, with small words some are.
-        let call = calls::formed(Job::Decode, Shape::any(depth, rate, rng), rng);
+        let shape = Shape::any(depth, rate, rng).with(k0);
+        let call = calls::formed(Job::Decode, shape, rng);
         c.check(&call)?;
     }
     Ok(())
@@ -119,8 +137,9 @@ fn blocks(c: &mut Comparison, count: usize, rng: &mut Rng) -> Swept {
 fn challenges(c: &mut Comparison, count: usize, rng: &mut Rng) -> Swept {
     let field = rng.field();
     for _ in 0..count {
-        let (level, rate) = (1 + rng.below(4), 2 + rng.below(15));
-        let mut call: Call = calls::call(Job::Fold, Shape::any(level, rate, rng), rng);
+        let (level, rate, k0) = (1 + rng.below(3), 2 + rng.below(15), rng.pick(&[1, 1, 2, 4]));
+        let shape = Shape::any(level, rate, rng).with(k0);
+        let mut call: Call = calls::call(Job::Fold, shape, rng);
         let from = rng.pick(&[Input::T, Input::T2]);
         let words = call.lent.words(from);
         let on = words[rng.below(words.len())];
@@ -132,21 +151,21 @@ fn challenges(c: &mut Comparison, count: usize, rng: &mut Rng) -> Swept {
     Ok(())
 }
 
-/// Upper levels 0 and 21, with slices that would fit them, and levels 16, 17 and 20 at the smallest rate.
+/// Upper level 0, with slices that would fit it, and levels 16, 17 and 20 at the smallest rate.
 fn fold_levels(c: &mut Comparison, rng: &mut Rng) -> Swept {
     singles(c, Job::Fold, Shape::any(16, 2, rng), rng)?;
     for level in [17, 20] {
         good(c, Job::Fold, Shape::any(level, 2, rng), rng)?;
     }
-    let call = calls::formed(Job::Fold, Shape::any(21, 2, rng), rng);
-    c.check(&call)?;
     // A block of level 0 has no halves; with an even rate its length would be two halves' length.
-    let mut call = calls::formed(Job::Fold, Shape::any(1, 2, rng), rng);
-    call.lent.depth = Some(0);
-    for length in 0..=2 {
-        call.lent.words_mut(Input::T).truncate(2 - length);
-        call.lent.words_mut(Input::T2).truncate(2 - length);
-        c.check(&call)?;
+    for k0 in [1, 2, 4, 3] {
+        let mut call = calls::formed(Job::Fold, Shape::any(1, 2, rng).with(k0), rng);
+        call.lent.parameters.depth = 0;
+        for length in (0..=2 * k0).rev() {
+            call.lent.words_mut(Input::T).truncate(length);
+            call.lent.words_mut(Input::T2).truncate(length);
+            c.check(&call)?;
+        }
     }
     Ok(())
 }

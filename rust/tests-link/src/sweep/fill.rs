@@ -1,13 +1,13 @@
-//! Filling. It has no field, and reads nothing but depth, rate and lengths.
+//! Filling. It has no field, and reads nothing but the record and lengths.
 
-use super::{damaged, illegal_sizes, pairs, random, singles, Swept};
+use super::{blocks, damaged, illegal_sizes, pairs, random, singles, Swept};
 use crate::call::Call;
 use crate::compare::Comparison;
 use crate::damage;
 use crate::good::{formed, Shape};
 use crate::job::Job;
 use tvarchula_reference::sample::Rng;
-use tvarchula_reference::{Answer, Field};
+use tvarchula_reference::{Answer, Field, Parameters};
 
 /// The rates that can be filled.
 const FILLED: [usize; 4] = [2, 4, 8, 16];
@@ -40,6 +40,8 @@ pub fn run(c: &mut Comparison, scale: usize) -> Swept {
         c.check(&call)?;
     }
     huge(c, &mut rng)?;
+    blocks::run(c, Job::FillRoots, &mut rng)?;
+    several_words(c, &mut rng)?;
     random(c, Job::FillRoots, 1_000 * scale, 10, &mut rng)
 }
 
@@ -76,6 +78,34 @@ fn no_powers_of_two(c: &mut Comparison, rng: &mut Rng) -> Swept {
     Ok(())
 }
 
+/// Base messages of more than one word, with slices that fit those and such as fit one word: 13 either way.
+fn several_words(c: &mut Comparison, rng: &mut Rng) -> Swept {
+    for k0 in [2, 4, 3, 8] {
+        for depth in 0..=3 {
+            for rate in [2, 3, 4, 16] {
+                let shape = Shape::random(depth, rate).with(k0);
+                let mut call = formed(Job::FillRoots, shape, rng);
+                refused(c, &call, 13)?;
+                call.out = formed(Job::FillRoots, shape.with(1), rng).out;
+                refused(c, &call, 13)?;
+            }
+        }
+        // The limit is that of one word.
+        let mut call = formed(Job::FillRoots, Shape::random(1, 2).with(k0), rng);
+        for (depth, due) in [(19, 13), (20, 13), (21, 1)] {
+            call.lent.parameters.depth = depth;
+            refused(c, &call, due)?;
+        }
+    }
+    Ok(())
+}
+
+fn refused(c: &mut Comparison, call: &Call, due: u32) -> Swept {
+    let answer = c.check(call)?;
+    assert_eq!(answer, Answer::plain(due), "agreed, but not due: {call}");
+    Ok(())
+}
+
 /// Numbers whose products and powers are more than a word or an index has.
 fn huge(c: &mut Comparison, rng: &mut Rng) -> Swept {
     let mut call = formed(Job::FillRoots, Shape::random(2, 2), rng);
@@ -93,8 +123,7 @@ fn huge(c: &mut Comparison, rng: &mut Rng) -> Swept {
             1 << 31,
             u32::MAX,
         ] {
-            call.lent.depth = Some(depth);
-            call.lent.rate = Some(rate);
+            call.lent.parameters = Parameters::one(depth, rate);
             c.check(&call)?;
         }
     }

@@ -1,6 +1,6 @@
 //! Readings, tables and evaluation.
 
-use super::{good, illegal_sizes, once_deep, pairs, places, random, singles, Swept};
+use super::{blocks, good, illegal_sizes, once_deep, pairs, places, random, singles, Swept};
 use crate::buffer::Buffer;
 use crate::call::{Call, Input};
 use crate::compare::Comparison;
@@ -24,10 +24,12 @@ pub fn run(c: &mut Comparison, field: Field, scale: usize) -> Swept {
             pairs(c, job, Shape::any(depth, 2, &mut rng), &mut rng)?;
         }
         illegal_sizes(c, job, &mut rng)?;
+        blocks::run(c, job, &mut rng)?;
         random(c, job, 2_000 * scale, 12, &mut rng)?;
     }
     for job in TABLES {
         lengths(c, job, &mut rng)?;
+        lengths_with(c, job, &mut rng)?;
     }
     for job in [Job::ReadClearance, Job::CoefficientsToTable, Job::Evaluate] {
         places::run(c, job, &mut rng)?;
@@ -47,7 +49,8 @@ pub fn sixteen(c: &mut Comparison, field: Field) -> Swept {
 
 /// The deepest calls of every run.
 pub fn deep(c: &mut Comparison, field: Field) -> Swept {
-    once_deep(c, &ALL, &mut Rng::new(field, 102))
+    once_deep(c, &ALL, &mut Rng::new(field, 102))?;
+    blocks::limits(c, &ALL, field)
 }
 
 /// Words around every edge of both fields, and any words.
@@ -74,39 +77,64 @@ fn lengths(c: &mut Comparison, job: Job, rng: &mut Rng) -> Swept {
     let large = [127, 128, 129, 1000, 65_535, 65_536, 65_537, 131_072];
     let largest = [1_048_575, 1_048_576, 1_048_577, 1_572_864, 2_097_152];
     for length in (0..=70).chain(large).chain(largest) {
-        let mut call = formed(job, Shape::any(0, 2, rng), rng);
-        call.add_note(&format!("length {length}"));
-        if job == Job::TableToCoefficients {
-            call.lent.table = Some(vec![-1; length]);
-            call.out.result = Some(Buffer::garbage(length, rng, |word| word));
-        } else {
-            call.lent.words.insert(Input::Message, vec![1; length]);
-            call.out.table = Some(Buffer::garbage(length, rng, |word| word as i32));
-            call.out.work = Some(Buffer::garbage(length, rng, |word| word));
-        }
-        c.check(&call)?;
+        c.check(&of_length(job, length, 1, rng))?;
     }
     Ok(())
 }
 
+/// Tables of some lengths with another k0: k0 itself is the least, and one that is not legal counts as 1.
+fn lengths_with(c: &mut Comparison, job: Job, rng: &mut Rng) -> Swept {
+    for k0 in [2, 4, 0, 3, 5, 8, 16, 64, 1 << 20, 1 << 31, u32::MAX] {
+        for length in (0..=20).chain([32, 48, 64, 1024, 1025]) {
+            c.check(&of_length(job, length, k0, rng))?;
+        }
+    }
+    for k0 in [0, 3, u32::MAX] {
+        for length in [1_048_575, 1_048_576, 1_048_577, 2_097_152] {
+            c.check(&of_length(job, length, k0, rng))?;
+        }
+    }
+    Ok(())
+}
+
+/// A call with all slices of one length.
+fn of_length(job: Job, length: usize, k0: u32, rng: &mut Rng) -> Call {
+    let mut call = formed(job, Shape::any(0, 2, rng), rng);
+    call.lent.parameters.k0 = k0;
+    call.add_note(&format!("length {length}"));
+    if job == Job::TableToCoefficients {
+        call.lent.table = Some(vec![-1; length]);
+        call.out.result = Some(Buffer::garbage(length, rng, |word| word));
+    } else {
+        call.lent.words.insert(Input::Message, vec![1; length]);
+        call.out.table = Some(Buffer::garbage(length, rng, |word| word as i32));
+        call.out.work = Some(Buffer::garbage(length, rng, |word| word));
+    }
+    call
+}
+
 /// Every message with one word set, at every corner and back to its table: one monomial each, so a
-/// wrong order of variables shows.
+/// wrong order of variables shows. The low variables of a base message are variables like others.
 fn corners(c: &mut Comparison, rng: &mut Rng) -> Swept {
-    for depth in 0..=4 {
-        for b in 0..1_usize << depth {
-            let unit: Vec<u32> = (0..1 << depth).map(|k| u32::from(k == b)).collect();
-            let mut back = formed(Job::CoefficientsToTable, Shape::any(depth, 2, rng), rng);
-            back.lent.words.insert(Input::Message, unit.clone());
-            c.check(&back)?;
-            let mut there = formed(Job::TableToCoefficients, Shape::any(depth, 2, rng), rng);
-            there.lent.table = Some(unit.iter().map(|&word| word as i32).collect());
-            c.check(&there)?;
-            for corner in 0..1_usize << depth {
-                let mut call = formed(Job::Evaluate, Shape::any(depth, 2, rng), rng);
-                call.lent.words.insert(Input::Message, unit.clone());
-                let point = (0..depth).map(|i| (corner >> i & 1) as u32).collect();
-                call.lent.words.insert(Input::Z, point);
-                c.check(&call)?;
+    for variables in 0..=4_usize {
+        for k0 in [1, 2, 4].into_iter().filter(|k0| k0 >> variables <= 1) {
+            let depth = variables - k0 / 2;
+            let shape = Shape::any(depth, 2, rng).with(k0);
+            for b in 0..1_usize << variables {
+                let unit: Vec<u32> = (0..1 << variables).map(|k| u32::from(k == b)).collect();
+                let mut back = formed(Job::CoefficientsToTable, shape, rng);
+                back.lent.words.insert(Input::Message, unit.clone());
+                c.check(&back)?;
+                let mut there = formed(Job::TableToCoefficients, shape, rng);
+                there.lent.table = Some(unit.iter().map(|&word| word as i32).collect());
+                c.check(&there)?;
+                for corner in 0..1_usize << variables {
+                    let mut call = formed(Job::Evaluate, shape, rng);
+                    call.lent.words.insert(Input::Message, unit.clone());
+                    let point = (0..variables).map(|i| (corner >> i & 1) as u32).collect();
+                    call.lent.words.insert(Input::Z, point);
+                    c.check(&call)?;
+                }
             }
         }
     }

@@ -1,5 +1,6 @@
 //! The calls that are compared, group by group, over one field each.
 
+pub mod blocks;
 pub mod code;
 pub mod fill;
 pub mod ground;
@@ -20,6 +21,9 @@ pub type Swept = Result<(), Difference>;
 
 /// How deep every run goes once for each job. For what is above it there is [`crate::large`].
 const DEEP: usize = 18;
+
+/// Words of base messages, above one.
+const SEVERAL: [usize; 2] = [2, 4];
 
 /// A good call of each job at that depth and the smallest rate.
 fn once_deep(c: &mut Comparison, jobs: &[Job], rng: &mut Rng) -> Swept {
@@ -93,7 +97,8 @@ fn random(c: &mut Comparison, job: Job, count: usize, deepest: usize, rng: &mut 
     Ok(())
 }
 
-/// Any rate, and a depth that is mostly small. Folding has no level 0.
+/// Any rate and any k0, of which 1 is as frequent as the others, and a depth that is mostly small. Folding has
+/// no level 0.
 fn any_shape(job: Job, deepest: usize, rng: &mut Rng) -> Shape {
     let bound = if rng.one_in(12) {
         deepest
@@ -105,18 +110,37 @@ fn any_shape(job: Job, deepest: usize, rng: &mut Rng) -> Shape {
         Job::FillRoots => 2 << rng.below(4),
         _ => 2 + rng.below(15),
     };
-    Shape::any(depth, rate, rng)
+    let k0 = match job {
+        Job::FillRoots => 1,
+        _ => rng.pick(&[1, 1, 2, 4]),
+    };
+    // As many words in a message, or nearly so: the limit is theirs.
+    let low = (k0 / 2).min(depth - usize::from(job == Job::Fold && depth > 0));
+    Shape::any(depth - low, rate, rng).with(k0)
 }
 
-/// Calls whose slices fit a depth or rate that is not legal: only the number itself is wrong. At depth 21
+/// Calls whose slices fit a depth, rate or k0 that is not legal: only the number itself is wrong. At depth 21
 /// the rate is small, since every slice is drawn: the smallest, and one that is not legal either.
 fn illegal_sizes(c: &mut Comparison, job: Job, rng: &mut Rng) -> Swept {
     let high = match rng.field() {
         Field::First => 2,
         Field::Second => 1,
     };
-    for (depth, rate) in [(21, high), (2, 0), (2, 1), (2, 17), (3, 20)] {
-        let call = good::formed(job, Shape::any(depth, rate, rng), rng);
+    for (depth, rate, k0) in [
+        (21, high, 1),
+        (2, 0, 1),
+        (2, 1, 1),
+        (2, 17, 1),
+        (3, 20, 1),
+        (2, 17, 2),
+        (1, 1, 4),
+        (2, 2, 3),
+        (1, 16, 5),
+        (1, 2, 8),
+        (3, 3, 16),
+        (2, 1, 3),
+    ] {
+        let call = good::formed(job, Shape::any(depth, rate, rng).with(k0), rng);
         c.check(&call)?;
     }
     Ok(())

@@ -1,5 +1,5 @@
-//! Where 4, 5 and 6 are: words of p or more, zeros in g and equal pairs at chosen places, alone, two and
-//! more at once. The least of them in the order of numbers, inputs and indices is due.
+//! Where 4, 5 and 6 are: words of p or more, zeros in g, rows of g that depend on each other and equal
+//! pairs at chosen places, alone, two and more at once. The least of them in the order of numbers, inputs and indices is due.
 
 use super::{good, Swept};
 use crate::call::{Call, Input};
@@ -8,8 +8,7 @@ use crate::damage::refused_words;
 use crate::good::Shape;
 use crate::job::Job;
 use tvarchula_reference::sample::Rng;
-use tvarchula_reference::sizes::Sizes;
-use tvarchula_reference::Answer;
+use tvarchula_reference::{Answer, Layout};
 
 /// Something that offends. Of two the lesser is named: inputs are declared in the order in which they
 /// are judged.
@@ -17,8 +16,10 @@ use tvarchula_reference::Answer;
 enum Spot {
     /// A word of p or more.
     Word(Input, usize),
-    /// A zero in g.
+    /// A zero in the one row of g.
     Zero(usize),
+    /// The second of several rows like the first.
+    Dependent,
     /// T' like T.
     Pair(usize),
 }
@@ -28,6 +29,7 @@ impl Spot {
         let (number, index, second) = match self {
             Spot::Word(input, j) => (4, j, input.number().expect("judged by 4")),
             Spot::Zero(j) => (5, j, 0),
+            Spot::Dependent => (5, 0, 0),
             Spot::Pair(j) => (6, j, 0),
         };
         Answer {
@@ -44,6 +46,12 @@ impl Spot {
                 lent.words_mut(input)[j] = rng.pick(&refused_words(lent.field));
             }
             Spot::Zero(j) => lent.words_mut(Input::G)[j] = 0,
+            Spot::Dependent => {
+                let rows = lent.k0() as usize;
+                let g = lent.words_mut(Input::G);
+                let n = g.len() / rows;
+                g.copy_within(..n, n);
+            }
             Spot::Pair(j) => lent.words_mut(Input::T2)[j] = lent.words(Input::T)[j],
         }
         call.add_note(&format!("{self:?}"));
@@ -52,8 +60,18 @@ impl Spot {
 
 /// All calls of one job.
 pub fn run(c: &mut Comparison, job: Job, rng: &mut Rng) -> Swept {
-    for (depth, rate) in [(1, 2), (2, 3), (3, 4), (4, 2), (2, 16)] {
-        let shape = Shape::random(depth, rate);
+    for (depth, rate, k0) in [
+        (1, 2, 1),
+        (2, 3, 1),
+        (3, 4, 1),
+        (4, 2, 1),
+        (2, 16, 1),
+        (1, 3, 2),
+        (2, 2, 2),
+        (1, 2, 4),
+        (2, 2, 4),
+    ] {
+        let shape = Shape::random(depth, rate).with(k0);
         let call = good(c, job, shape, rng)?;
         for spot in every(&call) {
             ask(c, &call, &[spot], rng)?;
@@ -79,8 +97,9 @@ pub fn last(c: &mut Comparison, call: &Call, rng: &mut Rng) -> Swept {
 /// Three and more at once, at any places.
 fn several(c: &mut Comparison, job: Job, rng: &mut Rng) -> Swept {
     for _ in 0..100 {
-        let (depth, rate) = (1 + rng.below(4), 2 + rng.below(6));
-        let call = good(c, job, Shape::any(depth, rate, rng), rng)?;
+        let (depth, rate) = (1 + rng.below(3), 2 + rng.below(6));
+        let k0 = rng.pick(&[1, 1, 2, 4]);
+        let call = good(c, job, Shape::any(depth, rate, rng).with(k0), rng)?;
         let every = every(&call);
         let spots: Vec<_> = (0..3 + rng.below(6)).map(|_| rng.pick(&every)).collect();
         ask(c, &call, &spots, rng)?;
@@ -108,7 +127,7 @@ fn every(call: &Call) -> Vec<Spot> {
 
 /// The ends and the middle of every input, and both ends of every level of the diagonals: above the
 /// lowest one an index within the level is another one.
-fn some(call: &Call, sizes: &Sizes) -> Vec<Spot> {
+fn some(call: &Call, sizes: &Layout) -> Vec<Spot> {
     let levels = |j: usize| (0..sizes.depth).any(|i| [j, j + 1].contains(&sizes.diagonal(i).start));
     spots(call, |input, len| {
         let leveled = matches!(input, Input::T | Input::T2) && call.job != Job::Fold;
@@ -125,6 +144,7 @@ fn spots(call: &Call, chosen: impl Fn(Input, usize) -> Vec<usize>) -> Vec<Spot> 
         let indices = chosen(input, words.len());
         spots.extend(indices.iter().map(|&j| Spot::Word(input, j)));
         match input {
+            Input::G if call.lent.k0() > 1 => spots.push(Spot::Dependent),
             Input::G => spots.extend(indices.iter().map(|&j| Spot::Zero(j))),
             Input::T => spots.extend(indices.iter().map(|&j| Spot::Pair(j))),
             _ => (),
@@ -181,6 +201,7 @@ mod tests {
             (Spot::Word(Input::Challenge, 0), (4, 0, 7)),
             (Spot::Word(Input::Opening, 0), (4, 0, 8)),
             (Spot::Zero(1), (5, 1, 0)),
+            (Spot::Dependent, (5, 0, 0)),
             (Spot::Pair(0), (6, 0, 0)),
         ];
         assert!(in_order.windows(2).all(|pair| pair[0].0 < pair[1].0));

@@ -110,12 +110,14 @@ impl Claims {
 
 /// A repeat beside every other damage: 1 to 7 come first.
 fn beside_damages(c: &mut Comparison, rng: &mut Rng) -> Swept {
-    let claims = Claims::new(c, Shape::random(2, 4), 5, rng)?;
-    let mut call = claims.calls[0].clone();
-    let queries = claims.repeated(5, 1, 3);
-    call.lent.words.insert(Input::Queries, queries);
-    for damage in damage::all(&call) {
-        damaged(c, &call, &[damage], rng)?;
+    for shape in [Shape::random(2, 4), Shape::random(1, 3).with(2)] {
+        let claims = Claims::new(c, shape, 5, rng)?;
+        let mut call = claims.calls[0].clone();
+        let queries = claims.repeated(5, 1, 3);
+        call.lent.words.insert(Input::Queries, queries);
+        for damage in damage::all(&call) {
+            damaged(c, &call, &[damage], rng)?;
+        }
     }
     Ok(())
 }
@@ -197,11 +199,17 @@ fn too_large(c: &mut Comparison, claims: &mut Claims) -> Swept {
 
 /// Lists that are longer than there are places, all of which are legal.
 fn more_than_places(c: &mut Comparison, rng: &mut Rng) -> Swept {
-    let mut claims = Claims::new(c, Shape::random(2, 3), 6, rng)?;
-    claims.judged(c, 6)?;
-    for count in 7..=MAX_QUERIES {
-        let queries: Vec<u32> = claims.list.iter().copied().cycle().take(count).collect();
-        claims.refused(c, &queries, 11)?;
+    for (shape, places) in [
+        (Shape::random(2, 3), 6),
+        (Shape::random(1, 3).with(2), 6),
+        (Shape::random(1, 2).with(4), 8),
+    ] {
+        let mut claims = Claims::new(c, shape, places, rng)?;
+        claims.judged(c, places)?;
+        for count in places + 1..=MAX_QUERIES {
+            let queries: Vec<u32> = claims.list.iter().copied().cycle().take(count).collect();
+            claims.refused(c, &queries, 11)?;
+        }
     }
     Ok(())
 }

@@ -67,7 +67,7 @@ fn writes_no_fold(call: &mut Call) -> Answer {
 /// Puts the last word right before decoding, where that is easy to see.
 fn decodes_without_the_last_word<const P: u32>(call: &mut Call) -> Answer {
     on_changed(call, REFERENCE, |call| {
-        let well = call.job == Job::Decode && call.lent.depth == Some(0);
+        let well = call.job == Job::Decode && (call.lent.depth(), call.lent.k0()) == (0, 1);
         if well && asked(call, REFERENCE).number == 8 {
             let residue = |input, j: usize| {
                 let words: &[u32] = call.lent.words(input);

@@ -4,7 +4,7 @@ use crate::verifier::judged;
 use crate::{afterwards, asked, found_over, of_its_field, on_changed, Sweep};
 use tvarchula_compare::{run, sweep, Call, Input, Job, Runner};
 use tvarchula_reference::field::{FIRST, SECOND};
-use tvarchula_reference::sizes::Sizes;
+use tvarchula_reference::polynomial::value_by_monomials;
 use tvarchula_reference::sumcheck::eq;
 use tvarchula_reference::verify::Verdict;
 use tvarchula_reference::{Answer, Field, Reference, Residue};
@@ -144,11 +144,10 @@ fn folds_with_the_other_half<const P: u32>(call: &mut Call) -> Answer {
 fn writes_with_the_other_half<const P: u32>(call: &mut Call) -> Answer {
     afterwards(call, REFERENCE, &[0], |_, call| {
         if call.job == Job::WriteOpening && has_negatives::<P>(call) {
-            let (depth, rate) = (call.lent.depth() as usize, call.lent.rate() as usize);
-            let sizes = Sizes { depth, rate };
-            for level in 0..depth {
+            let sizes = call.lent.layout();
+            for level in 0..sizes.depth {
                 let block = &mut call.out.parts().result[sizes.opening_block(level)];
-                spoil::<P>(block, depth - level);
+                spoil::<P>(block, sizes.depth - level);
             }
         }
     })
@@ -174,7 +173,9 @@ fn verifies_with_the_other_half<const P: u32>(call: &mut Call) -> Answer {
         let (x1, x2) = (x - one, x - one - one);
         claimed = h0 * x1 * x2 * half - h1 * x * x2 + h2 * x * x1 * half;
     }
-    if claim.final_value(&code) * eq(&claim.z, &claim.r) != claimed {
+    let (low, high) = claim.z.split_at(code.sizes.low());
+    let left = value_by_monomials(claim.final_words(&code), low);
+    if left * eq(high, &claim.r) != claimed {
         return Verdict::Final.into();
     }
     claim.verdict(&code).into()

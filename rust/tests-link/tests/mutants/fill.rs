@@ -4,7 +4,6 @@ use crate::{afterwards, found_over, prefers, Sweep};
 use tvarchula_compare::{run, sweep, Call, Job, Runner};
 use tvarchula_reference::field::SECOND;
 use tvarchula_reference::fill::root;
-use tvarchula_reference::sizes::Sizes;
 use tvarchula_reference::{Answer, Field, Reference, Residue};
 
 const REFERENCE: Runner = run::code::<Reference>;
@@ -12,10 +11,9 @@ const REFERENCE: Runner = run::code::<Reference>;
 /// Fills T with other words, of a level with so many and at an index of it, and T' with their negatives.
 fn fills(call: &mut Call, word: impl Fn(usize, usize) -> Residue<SECOND>) -> Answer {
     afterwards(call, REFERENCE, &[0], |_, call| {
-        let (depth, rate) = (call.lent.depth() as usize, call.lent.rate() as usize);
-        let sizes = Sizes { depth, rate };
+        let sizes = call.lent.layout();
         let [_, t, t2] = call.out.parts().rows;
-        for level in 0..depth {
+        for level in 0..sizes.depth {
             let range = sizes.diagonal(level);
             for (k, j) in range.enumerate() {
                 let word = word(sizes.block(level), k);
@@ -59,8 +57,8 @@ fn counts_powers_from_1(call: &mut Call) -> Answer {
 }
 
 fn takes_one_root_for_all_levels(call: &mut Call) -> Answer {
-    let top = match (call.lent.depth, call.lent.rate) {
-        (Some(depth @ 1..=20), Some(rate)) => (rate as usize) << depth,
+    let top = match (call.lent.depth(), call.lent.rate()) {
+        (depth @ 1..=20, rate) => (rate as usize) << depth,
         _ => 2,
     };
     fills(call, |_, k| powers(top, k))

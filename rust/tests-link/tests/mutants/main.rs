@@ -2,6 +2,7 @@
 //!
 //! Each mutant is the reference with one mistake, most of them mistakes that the order warns of.
 
+mod blocks;
 mod code;
 mod field;
 mod fill;

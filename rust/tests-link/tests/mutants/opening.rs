@@ -2,17 +2,15 @@
 
 use crate::{afterwards, all_found, has_large_word, on_changed, prefers, reduce_words, Sweep};
 use tvarchula_compare::{run, sweep, Call, Input, Job, Runner};
-use tvarchula_reference::sizes::Sizes;
-use tvarchula_reference::{Answer, Reference};
+use tvarchula_reference::{Answer, Layout, Reference};
 
 const REFERENCE: Runner = run::opening::<Reference>;
 
 /// Changes a written opening.
-fn rewrites(call: &mut Call, change: impl Fn(&Sizes, &mut [u32])) -> Answer {
+fn rewrites(call: &mut Call, change: impl Fn(&Layout, &mut [u32])) -> Answer {
     afterwards(call, REFERENCE, &[0], |_, call| {
         if call.job == Job::WriteOpening {
-            let (depth, rate) = (call.lent.depth() as usize, call.lent.rate() as usize);
-            change(&Sizes { depth, rate }, call.out.parts().result);
+            change(&call.lent.layout(), call.out.parts().result);
         }
     })
 }
@@ -39,7 +37,7 @@ fn writes_blocks_upward(call: &mut Call) -> Answer {
         let levels = 0..sizes.depth;
         let upward = levels.flat_map(|i| opening[sizes.opening_block(i)].to_vec());
         let upward: Vec<u32> = upward.collect();
-        opening[sizes.final_value() + 1..].copy_from_slice(&upward);
+        opening[sizes.final_words().end..].copy_from_slice(&upward);
     })
 }
 

@@ -3,7 +3,6 @@
 use crate::all_found;
 use tvarchula_compare::{run, sweep, Call, Comparison, Input, Job, Runner};
 use tvarchula_reference::sample::Rng;
-use tvarchula_reference::sizes::Sizes;
 use tvarchula_reference::{Answer, Field, Reference};
 
 const REFERENCE: Runner = run::any::<Reference>;
@@ -85,15 +84,10 @@ fn takes_for(call: &mut Call, input: u32, instead: u32) -> Answer {
     })
 }
 
-fn sizes(call: &Call) -> Sizes {
-    let (depth, rate) = (call.lent.depth() as usize, call.lent.rate() as usize);
-    Sizes { depth, rate }
-}
-
 /// Counts from the start of the level, of one input (none for 6).
 fn counts_within_the_level(call: &mut Call, number: u32, input: u32) -> Answer {
     renames(call, &[number], |call, answer| {
-        let (sizes, index) = (sizes(call), answer.first as usize);
+        let (sizes, index) = (call.lent.layout(), answer.first as usize);
         let mut levels = (0..sizes.depth).map(|level| sizes.diagonal(level));
         if answer.second == input {
             let level = levels.find(|level| level.contains(&index));
@@ -105,7 +99,7 @@ fn counts_within_the_level(call: &mut Call, number: u32, input: u32) -> Answer {
 /// Counts as if a fold were lent all levels.
 fn counts_from_the_lowest_level(call: &mut Call, number: u32) -> Answer {
     renames(call, &[number], |call, answer| {
-        let sizes = sizes(call);
+        let sizes = call.lent.layout();
         if matches!(answer.second, 0 | 2 | 3) {
             answer.first += sizes.diagonal(sizes.depth - 1).start as u32;
         }
@@ -120,12 +114,11 @@ fn swaps_index_and_input(call: &mut Call) -> Answer {
 
 fn names_the_last_zero(call: &mut Call) -> Answer {
     renames(call, &[5], |call, answer| {
-        let last = call
-            .lent
-            .words(Input::G)
-            .iter()
-            .rposition(|&word| word == 0);
-        answer.first = last.expect("the named one") as u32;
+        if call.lent.k0() == 1 {
+            let mut g = call.lent.words(Input::G).iter();
+            let last = g.rposition(|&word| word == 0);
+            answer.first = last.expect("the named one") as u32;
+        }
     })
 }
 

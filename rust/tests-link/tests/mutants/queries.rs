@@ -11,7 +11,7 @@ fn takes_queries(call: &mut Call, change: impl Fn(&mut Vec<u32>, u32)) -> Answer
         return on_changed(call, REFERENCE, |call| {
             let below = match call.lent.depth() {
                 0 => 0,
-                depth => call.lent.rate() << (depth - 1),
+                depth => (call.lent.rate() * call.lent.k0()) << (depth - 1),
             };
             change(call.lent.words_mut(Input::Queries), below);
         });

@@ -3,6 +3,7 @@
 use crate::{all_found, of_its_field, on_changed, reduce_words, Sweep};
 use tvarchula_compare::{run, sweep, Call, Input, Job, Runner};
 use tvarchula_reference::code::Code;
+use tvarchula_reference::encode::by_matrix;
 use tvarchula_reference::fold::line;
 use tvarchula_reference::sumcheck::eq;
 use tvarchula_reference::verify::{judge_claim, Claim, Verdict};
@@ -25,7 +26,7 @@ pub fn judged<const P: u32>(call: &Call) -> Result<(Code<P>, Claim<P>), Refusal>
 }
 
 /// A verifier that gives another verdict on a well-formed claim.
-fn another<const P: u32>(
+pub fn another<const P: u32>(
     call: &mut Call,
     verdict: impl Fn(&Code<P>, &Claim<P>) -> Verdict,
 ) -> Answer {
@@ -135,7 +136,8 @@ fn steps_by_greater<const P: u32>(call: &mut Call) -> Answer {
 }
 
 fn eq_is_zero<const P: u32>(claim: &Claim<P>) -> bool {
-    eq(&claim.z, &claim.r) == Residue::ZERO
+    let low = claim.z.len() - claim.r.len();
+    eq(&claim.z[low..], &claim.r) == Residue::ZERO
 }
 
 fn divides_by_eq_and_fails<const P: u32>(call: &mut Call) -> Answer {
@@ -202,11 +204,9 @@ fn counts_rounds_from_the_start<const P: u32>(call: &mut Call) -> Answer {
 fn names_the_last_base_word<const P: u32>(call: &mut Call) -> Answer {
     another::<P>(call, |code, claim| match claim.verdict(code) {
         Verdict::Base(_) => {
-            let v = claim.final_value(code);
+            let due = by_matrix(code, 0, claim.final_words(code));
             let block = claim.level_block(code, 0);
-            let wrong = (0..code.sizes.rate)
-                .rev()
-                .find(|&j| block[j] != v * code.g[j]);
+            let wrong = (0..due.len()).rev().find(|&j| block[j] != due[j]);
             Verdict::Base(wrong.expect("one is wrong"))
         }
         verdict => verdict,

@@ -1,6 +1,7 @@
+use Prim.Native.Nat.{_-_, _^_}
 use lib.ListN.{length}
 use Rattle.residue.specs.Chosen.{chosen}
-use Rattle.base_undo.proofs.Slicing.{block-within, from-column, column-undone}
+use Rattle.base_undo.proofs.Slicing.{block-within, from-column, inverses-from, column-undone}
 use borrow.Author.Needs.{needs}
 use Rattle.base_undo.proofs.column.undo_column.Statement.{statement}
 use Rattle.base_undo.proofs.column.undo_column.Tie as tie
@@ -60,7 +61,7 @@ undo-first-requires c κs =
     let a = s .args in
     let 𝓕 = chosen (a .field) in
     let l = c .before .before .before .before .least in
-    from-column 𝓕 (a .depth) (a .n) (a .t .now) (a .t2 .now) (a .block .now) (s .pre .0) (a .b) (s .pre .1) (l .result) (l .ensures) (length (a .work .now)) (s .pre .2)
+    (from-column 𝓕 (a .depth) (a .n) (a .t .now) (a .t2 .now) (a .block .now) (s .pre .0) (a .b) (s .pre .1) (l .result) (l .ensures) (length (a .work .now)) (s .pre .2), inverses-from 𝓕 (a .depth) (a .n) (a .t .now) (a .t2 .now) (a .block .now) (s .pre .0) (a .b) (s .pre .1) (l .result) (l .ensures) (2 ^ a .depth - 1) (s .pre .3))
 
 same-length : tie.Need-same-length
 same-length c = search needs

@@ -1,9 +1,11 @@
 use mathlib.Core.Path.{sym}
-use borrow.Author.Tests.{eq-eqb, ne-eqb, leb-true}
+use native.Mathlib.Omega.{arith}
+use borrow.Author.Tests.{eq-eqb, ne-eqb}
 use Rattle.algebra.specs.Flags.{passes, stops₂, goes₂}
 use Rattle.algebra.specs.Tests.{and-both}
-use Rattle.job.specs.LimitLaws.{rate-most}
-use Rattle.parameters.specs.Parameters.{inLimits, rowLengths}
+use Rattle.job.specs.Sizes.{inLimits}
+use Rattle.job.specs.SizeLaws.{limits-size}
+use Rattle.base_parameters.specs.Parameters.{rowLengths}
 use Rattle.decode.specs.Decoding.{decodeLengths}
 use borrow.Author.Needs.{needs}
 use Rattle.decode.proofs.decode.lengths_ok.Statement.{statement}
@@ -16,33 +18,35 @@ returns : tie.Need-returns
 unfolding decodeLengths
 returns c =
     let a = c .before .before .args in
-    stops₂ (inLimits (a .depth) (a .rate)) (rowLengths (a .depth) (a .rate) (a .g) (a .t) (a .t2)) _ (c .before .lengths-ok .ensures) (c .if1 .taken)
+    stops₂ (inLimits (a .p .depth) (a .p .rate) (a .p .k0)) (rowLengths (a .p .depth) (a .p .rate) (a .p .k0) (a .g) (a .t) (a .t2)) _ (c .before .lengths-ok .ensures) (c .if1 .taken)
 
 block-len-requires : tie.Need-block-len-requires
-block-len-requires c κs = let l = and-both _ _ (passes (c .before .lengths-ok .ensures) (c .if1 .left)) in let w = and-both _ _ (l .0) in (leb-true _ _ (w .0), rate-most _ (w .1))
+block-len-requires c κs = (and-both _ _ (passes (c .before .lengths-ok .ensures) (c .if1 .left)) .0, omega arith)
 
 returns-2 : tie.Need-returns-2
 unfolding decodeLengths
 returns-2 c =
     let a = c .before .before .before .before .args in
-    goes₂ (inLimits (a .depth) (a .rate)) (rowLengths (a .depth) (a .rate) (a .g) (a .t) (a .t2)) (c .before .before .before .lengths-ok .ensures) (c .before .before .if1 .left)
+    goes₂ (inLimits (a .p .depth) (a .p .rate) (a .p .k0)) (rowLengths (a .p .depth) (a .p .rate) (a .p .k0) (a .g) (a .t) (a .t2)) (c .before .before .before .lengths-ok .ensures) (c .before .before .if1 .left)
     (sym (rw (← (c .before .block-len .ensures), ne-eqb _ _ (c .if2 .taken))))
 
 message-len-requires : tie.Need-message-len-requires
-message-len-requires c κs = let l = and-both _ _ (passes (c .before .before .before .lengths-ok .ensures) (c .before .before .if1 .left)) in let w = and-both _ _ (l .0) in leb-true _ _ (w .0)
+message-len-requires c κs =
+    let a = c .before .before .before .before .args in
+    limits-size (a .p .depth) (a .p .rate) (a .p .k0) (and-both _ _ (passes (c .before .before .before .lengths-ok .ensures) (c .before .before .if1 .left)) .0)
 
 returns-3 : tie.Need-returns-3
 unfolding decodeLengths
 returns-3 c =
     let a = c .before .before .before .before .before .before .args in
-    goes₂ (inLimits (a .depth) (a .rate)) (rowLengths (a .depth) (a .rate) (a .g) (a .t) (a .t2)) (c .before .before .before .before .before .lengths-ok .ensures) (c .before .before .before .before .if1 .left)
+    goes₂ (inLimits (a .p .depth) (a .p .rate) (a .p .k0)) (rowLengths (a .p .depth) (a .p .rate) (a .p .k0) (a .g) (a .t) (a .t2)) (c .before .before .before .before .before .lengths-ok .ensures) (c .before .before .before .before .if1 .left)
     (sym (rw (← (c .before .before .before .block-len .ensures), ← (c .before .message-len .ensures), eq-eqb _ _ (c .before .before .if2 .left), ne-eqb _ _ (c .if3 .taken))))
 
 returns-4 : tie.Need-returns-4
 unfolding decodeLengths
 returns-4 c =
     let a = c .before .before .before .before .before .before .args in
-    goes₂ (inLimits (a .depth) (a .rate)) (rowLengths (a .depth) (a .rate) (a .g) (a .t) (a .t2)) (c .before .before .before .before .before .lengths-ok .ensures) (c .before .before .before .before .if1 .left)
+    goes₂ (inLimits (a .p .depth) (a .p .rate) (a .p .k0)) (rowLengths (a .p .depth) (a .p .rate) (a .p .k0) (a .g) (a .t) (a .t2)) (c .before .before .before .before .before .lengths-ok .ensures) (c .before .before .before .before .if1 .left)
     (sym (rw (← (c .before .before .before .block-len .ensures), ← (c .before .message-len .ensures), eq-eqb _ _ (c .before .before .if2 .left), eq-eqb _ _ (c .if3 .left))))
 
 pub lengths-ok-spec : {M : Type 1} → statement M

@@ -1,7 +1,7 @@
 use mathlib.Core.Path.{sym}
 use native.Mathlib.Omega.{arith}
 use borrow.Author.Tests.{eq-eqb, ne-eqb}
-use Rattle.job.specs.LimitLaws.{power-most}
+use Rattle.job.specs.SizeLaws.{limits-size, within}
 use Rattle.open.specs.Writing.{bufferLengths}
 use borrow.Author.Needs.{needs}
 use Rattle.open.proofs.judge.buffers_ok.Statement.{statement}
@@ -15,10 +15,10 @@ unfolding bufferLengths
 returns c = sym (rw (← (c .before .opening-len .ensures), ne-eqb _ _ (c .if1 .taken)))
 
 message-len-requires : tie.Need-message-len-requires
-message-len-requires c κs = search needs
+message-len-requires c κs = let s = c .before .before in let p = s .args .p in limits-size (p .depth) (p .rate) (p .k0) (s .pre)
 
 mul-result : tie.Need-mul-result
-mul-result c = let s = c .before .before .before in omega (arith, c .message-len .ensures, power-most (s .args .depth) (s .pre .0))
+mul-result c = let s = c .before .before .before in let p = s .args .p in omega (arith, c .message-len .ensures, within (p .depth) (p .rate) (p .k0) (s .pre) .message)
 
 returns-2 : tie.Need-returns-2
 unfolding bufferLengths

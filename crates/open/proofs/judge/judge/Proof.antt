@@ -1,12 +1,12 @@
 use mathlib.Core.Path.{refl}
-use mathlib.Core.List.{[], _∷_}
+use mathlib.Core.List.{[]}
 use lib.ListN.{length}
 use Rattle.algebra.specs.Tests.{all}
 use Rattle.residue.specs.Chosen.{chosen}
-use Rattle.job.specs.declared.Input.the-variants.{Block, Z, R}
-use Rattle.parameters.specs.ParameterLaws.{judged-by}
+use Rattle.base_parameters.specs.ParameterLaws.{judged-by}
 use Rattle.open.specs.Writing.{writeLengths, judgeWriting}
-use Rattle.open.proofs.Judged.{write-sized, words-below}
+use Rattle.open.specs.WritingLaws.{writeInputs}
+use Rattle.open.proofs.Judged.{write-flagged, words-below}
 use borrow.Author.Needs.{needs}
 use Rattle.open.proofs.judge.judge.Statement.{statement}
 use Rattle.open.proofs.judge.judge.Tie as tie
@@ -26,16 +26,16 @@ slice-aggregate-none c = search needs
 judge-requires : tie.Need-judge-requires
 judge-requires c κs =
     let a = c .before .before .before .before .before .before .before .before .before .before .args in
-    write-sized (a .depth) (a .rate) (a .g .now) (a .t .now) (a .t2 .now) (a .m .now) (a .z .now) (a .r .now) (a .o) (a .s) (c .before .before .before .lengths-ok .ensures)
+    write-flagged (chosen (a .field)) (a .p .depth) (a .p .rate) (a .p .k0) (a .g .now) (a .t .now) (a .t2 .now) (a .m .now) (a .z .now) (a .r .now) (a .o) (a .s) (c .before .before .before .lengths-ok .ensures) (c .before .before .scan-row .ensures) (c .before .words-ok .ensures)
 
 returns : tie.Need-returns
 unfolding judgeWriting all
 returns c =
     let a = c .before .before .before .before .before .before .before .before .before .before .before .args in
     let 𝓕 = chosen (a .field) in
-    judged-by 𝓕 (a .depth) (a .rate) (a .g .now) (a .t .now) (a .t2 .now) (a .m .now) (a .z .now) [] (a .r .now) []
-    (writeLengths (a .depth) (a .rate) (length (a .g .now)) (length (a .t .now)) (length (a .t2 .now)) (length (a .m .now)) (length (a .z .now)) (length (a .r .now)) (a .o) (a .s))
-    ((Block, a .m .now) ∷ (Z, a .z .now) ∷ (R, a .r .now) ∷ []) refl (c .before .before .before .before .lengths-ok .ensures) (c .before .before .before .scan-row .ensures)
+    judged-by 𝓕 (a .p .depth) (a .p .rate) (a .p .k0) (a .g .now) (a .t .now) (a .t2 .now) (a .m .now) (a .z .now) [] (a .r .now) []
+    (writeLengths (a .p .depth) (a .p .rate) (a .p .k0) (length (a .g .now)) (length (a .t .now)) (length (a .t2 .now)) (length (a .m .now)) (length (a .z .now)) (length (a .r .now)) (a .o) (a .s))
+    (writeInputs (a .m .now) (a .z .now) (a .r .now)) refl (c .before .before .before .before .lengths-ok .ensures) (c .before .before .before .scan-row .ensures)
     (words-below 𝓕 (a .m .now) (a .z .now) (a .r .now) (c .before .before .words-ok .ensures)) (c .judge .ensures)
 
 pub judge-spec : {M : Type 1} → statement M

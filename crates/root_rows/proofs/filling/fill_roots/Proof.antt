@@ -16,19 +16,19 @@ enum-told c = search needs
 
 -- where the answer is Done, nothing is due
 fine : (c : tie.After-enum-told)
-    → (let a = c .before .before .before .before .before .before .args in judgeFilling (a .depth) (a .rate) (length (a .g .now)) (length (a .t .now)) (length (a .t2 .now)) ≡ done tt)
+    → (let a = c .before .before .before .before .before .before .args in judgeFilling (a .p .depth) (a .p .rate) (a .p .k0) (length (a .g .now)) (length (a .t .now)) (length (a .t2 .now)) ≡ done tt)
 fine c = sym (c .before .before .judge .ensures) ∙ ap outcome (c .enum-told .given .1)
 
 exponent-requires : tie.Need-exponent-requires
 exponent-requires c κs =
     let a = c .before .before .before .before .before .before .args in
-    filling-exactly (a .depth) (a .rate) (length (a .g .now)) (length (a .t .now)) (length (a .t2 .now)) .0 (fine c) .rate
+    filling-exactly (a .p .depth) (a .p .rate) (a .p .k0) (length (a .g .now)) (length (a .t .now)) (length (a .t2 .now)) .0 (fine c) .rate
 
 fill-requires : tie.Need-fill-requires
 fill-requires c κs =
     let x = c .before .before .before in
     let a = x .before .before .before .before .before .before .before .args in
-    lent-room (a .depth) (a .rate) (a .g .now) (a .t .now) (a .t2 .now) (fine (x .before)) (x .exponent .ensures)
+    lent-room (a .p .depth) (a .p .rate) (a .p .k0) (a .g .now) (a .t .now) (a .t2 .now) (fine (x .before)) (x .exponent .ensures)
 
 enum-told-2 : tie.Need-enum-told-2
 enum-told-2 c = search needs
@@ -47,13 +47,13 @@ returns c =
     let f = c .before .before .before .before .before .before in
     let x = f .before .before .before .before in
     let a = x .before .before .before .before .before .before .before .args in
-    call-done (a .depth) (a .rate) (a .g .now) (a .t .now) (a .t2 .now) (fine (x .before)) (x .exponent .ensures) (x .before .before .before .judge .ensures) (f .fill .ensures)
+    call-done (a .p .depth) (a .p .rate) (a .p .k0) (a .g .now) (a .t .now) (a .t2 .now) (fine (x .before)) (x .exponent .ensures) (x .before .before .before .judge .ensures) (f .fill .ensures)
 
 returns-2 : tie.Need-returns-2
 returns-2 c =
     let a = c .before .before .before .before .before .before .args in
     let told = c .before .before .judge .ensures in
-    call-refused (a .depth) (a .rate) (a .g .now) (a .t .now) (a .t2 .now) told (sym told ∙ ap outcome (c .enum-told2 .given .1))
+    call-refused (a .p .depth) (a .p .rate) (a .p .k0) (a .g .now) (a .t .now) (a .t2 .now) told (sym told ∙ ap outcome (c .enum-told2 .given .1))
 
 pub fill-roots-spec : {M : Type 1} → statement M
 fill-roots-spec =

@@ -18,13 +18,13 @@ enum-told : tie.Need-enum-told
 enum-told c = search needs
 
 -- in the first arm every test has passed
-fine : (c : tie.After-enum-told) → (let a = c .before .before .before .before .args in done tt ≡ judgeTable (chosen (a .field)) (a .clearances .now) (length (a .message .now)))
+fine : (c : tie.After-enum-told) → (let a = c .before .before .before .before .args in done tt ≡ judgeTable (chosen (a .field)) (a .p .k0) (a .clearances .now) (length (a .message .now)))
 fine c = sym (ap outcome (c .enum-told .given .1)) ∙ c .before .before .judge .ensures
 
 find-requires : tie.Need-find-requires
 find-requires c κs =
     let a = c .before .before .before .before .before .args in
-    let l = table-passed (chosen (a .field)) (a .clearances .now) (length (a .message .now)) (sym (fine (c .before))) in
+    let l = table-passed (chosen (a .field)) (a .p .k0) (a .clearances .now) (length (a .message .now)) (sym (fine (c .before))) in
     (l .power, (l .same, l .range))
 
 enum-known-verdict : tie.Need-enum-known-verdict
@@ -37,13 +37,13 @@ returns : tie.Need-returns
 returns c =
     let a = c .before .before .before .before .before .before .before .before .args in
     let f = fine (c .before .before .before .before) in
-    let l = table-passed (chosen (a .field)) (a .clearances .now) (length (a .message .now)) (sym f) in
-    coefficients-done (chosen (a .field)) (a .clearances .now) (a .message .now) _ f (rw (c .before .before .find .ensures) (message-found (chosen (a .field)) (a .clearances .now) (l .power)))
+    let l = table-passed (chosen (a .field)) (a .p .k0) (a .clearances .now) (length (a .message .now)) (sym f) in
+    coefficients-done (chosen (a .field)) (a .p .k0) (a .clearances .now) (a .message .now) _ f (rw (c .before .before .find .ensures) (message-found (chosen (a .field)) (a .clearances .now) (l .power)))
 
 returns-2 : tie.Need-returns-2
 returns-2 c =
     let a = c .before .before .before .before .before .args in
-    coefficients-refused (chosen (a .field)) (a .clearances .now) (a .message .now) _ (sym (ap outcome (c .before .verdict .given .1)) ∙ c .before .before .before .judge .ensures)
+    coefficients-refused (chosen (a .field)) (a .p .k0) (a .clearances .now) (a .message .now) _ (sym (ap outcome (c .before .verdict .given .1)) ∙ c .before .before .before .judge .ensures)
 
 pub table-to-coefficients-spec : {M : Type 1} → statement M
 table-to-coefficients-spec =

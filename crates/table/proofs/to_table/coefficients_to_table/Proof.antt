@@ -19,13 +19,13 @@ enum-told c = search needs
 
 -- in the first arm every test has passed
 fine : (c : tie.After-enum-told)
-    → (let a = c .before .before .before .before .before .args in done tt ≡ judgeMessage (chosen (a .field)) (a .message .now) (length (a .clearances .now)) (length (a .work .now)))
+    → (let a = c .before .before .before .before .before .args in done tt ≡ judgeMessage (chosen (a .field)) (a .p .k0) (a .message .now) (length (a .clearances .now)) (length (a .work .now)))
 fine c = sym (ap outcome (c .enum-told .given .1)) ∙ c .before .before .judge .ensures
 
 find-requires : tie.Need-find-requires
 find-requires c κs =
     let a = c .before .before .before .before .before .before .before .args in
-    let l = message-passed (chosen (a .field)) (a .message .now) (length (a .clearances .now)) (length (a .work .now)) (sym (fine (c .before .before))) in
+    let l = message-passed (chosen (a .field)) (a .p .k0) (a .message .now) (length (a .clearances .now)) (length (a .work .now)) (sym (fine (c .before .before))) in
     ((l .power, all-below (chosen (a .field)) _ (l .below)), (l .same, l .room))
 
 enum-known-verdict : tie.Need-enum-known-verdict
@@ -41,12 +41,12 @@ returns : tie.Need-returns
 returns c =
     let a = c .before .before .before .before .before .before .before .before .before .before .before .args in
     let e = c .before .before .before .find .ensures in
-    tables-done (chosen (a .field)) (a .message .now) (a .clearances .now) (a .work .now) _ _ (fine (c .before .before .before .before .before .before)) (e .0) (e .1)
+    tables-done (chosen (a .field)) (a .p .k0) (a .message .now) (a .clearances .now) (a .work .now) _ _ (fine (c .before .before .before .before .before .before)) (e .0) (e .1)
 
 returns-2 : tie.Need-returns-2
 returns-2 c =
     let a = c .before .before .before .before .before .before .args in
-    tables-refused (chosen (a .field)) (a .message .now) (a .clearances .now) (a .work .now) _ (sym (ap outcome (c .before .verdict .given .1)) ∙ c .before .before .before .judge .ensures)
+    tables-refused (chosen (a .field)) (a .p .k0) (a .message .now) (a .clearances .now) (a .work .now) _ (sym (ap outcome (c .before .verdict .given .1)) ∙ c .before .before .before .judge .ensures)
 
 pub coefficients-to-table-spec : {M : Type 1} → statement M
 coefficients-to-table-spec =

@@ -24,7 +24,7 @@ enum-told c = search needs
 judge-requires : tie.Need-judge-requires
 judge-requires c κs =
     let a = c .before .before .before .before .before .before .before .before .before .before .before .args in
-    opened-within (chosen (a .field)) (a .depth) (a .rate) (a .g .now) (a .t .now) (a .t2 .now) (a .block .now) (a .z .now) (a .y) (a .r .now) (a .opening .now) (sym (c .before .before .judge-opened .ensures) ∙ ap outcome (c .enum-told .given .1))
+    opened-within (chosen (a .field)) (a .p .depth) (a .p .rate) (a .p .k0) (a .g .now) (a .t .now) (a .t2 .now) (a .block .now) (a .z .now) (a .y) (a .r .now) (a .opening .now) (sym (c .before .before .judge-opened .ensures) ∙ ap outcome (c .enum-told .given .1))
 
 returns-2 : tie.Need-returns-2
 unfolding judgeVerifying

@@ -2,9 +2,9 @@ use mathlib.Core.Path.{refl}
 use mathlib.Core.List.{[], _∷_}
 use lib.ListN.{length}
 use Rattle.residue.specs.Chosen.{chosen}
-use Rattle.parameters.specs.ParameterLaws.{judged-by}
+use Rattle.base_parameters.specs.ParameterLaws.{judged-by}
 use Rattle.verify.specs.Verifying.{openedLengths, claimInputs}
-use Rattle.verify.proofs.Judged.{opened-sized, claim-below}
+use Rattle.verify.proofs.Judged.{opened-flagged, claim-below}
 use borrow.Author.Needs.{needs}
 use Rattle.verify.proofs.judge.judge_opened.Statement.{statement}
 use Rattle.verify.proofs.judge.judge_opened.Tie as tie
@@ -24,13 +24,13 @@ slice-aggregate-judge c = search needs
 judge-requires : tie.Need-judge-requires
 judge-requires c κs =
     let a = c .before .before .before .before .before .before .before .before .before .before .before .args in
-    opened-sized (a .depth) (a .rate) (a .g .now) (a .t .now) (a .t2 .now) (a .block .now) (a .z .now) (a .y) (a .r .now) (a .opening .now) (c .before .before .before .lengths-ok .ensures)
+    opened-flagged (chosen (a .field)) (a .p .depth) (a .p .rate) (a .p .k0) (a .g .now) (a .t .now) (a .t2 .now) (a .block .now) (a .z .now) (a .y) (a .r .now) (a .opening .now) (c .before .before .before .lengths-ok .ensures) (c .before .before .scan-row .ensures) (c .before .words-ok .ensures)
 
 returns : tie.Need-returns
 returns c =
     let a = c .before .before .before .before .before .before .before .before .before .before .before .before .args in
-    let L = openedLengths (a .depth) (a .rate) (length (a .g .now)) (length (a .t .now)) (length (a .t2 .now)) (length (a .block .now)) (length (a .z .now)) (length (a .r .now)) (length (a .opening .now)) in
-    judged-by (chosen (a .field)) (a .depth) (a .rate) (a .g .now) (a .t .now) (a .t2 .now) (a .block .now) (a .z .now) (a .y ∷ []) (a .r .now) (a .opening .now) L
+    let L = openedLengths (a .p .depth) (a .p .rate) (a .p .k0) (length (a .g .now)) (length (a .t .now)) (length (a .t2 .now)) (length (a .block .now)) (length (a .z .now)) (length (a .r .now)) (length (a .opening .now)) in
+    judged-by (chosen (a .field)) (a .p .depth) (a .p .rate) (a .p .k0) (a .g .now) (a .t .now) (a .t2 .now) (a .block .now) (a .z .now) (a .y ∷ []) (a .r .now) (a .opening .now) L
     (claimInputs (a .block .now) (a .z .now) (a .y) (a .r .now) (a .opening .now)) refl (c .before .before .before .before .lengths-ok .ensures) (c .before .before .before .scan-row .ensures)
     (claim-below (chosen (a .field)) (a .block .now) (a .z .now) (a .y) (a .r .now) (a .opening .now) (c .before .before .words-ok .ensures)) (c .judge .ensures)
 

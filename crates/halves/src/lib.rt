@@ -1,3 +1,0 @@
-// Whether a block is the codeword of a message that stands in front of the work buffer, with the message left as it is.
-
-pub mod same;
