@@ -1,24 +1,27 @@
 -- The base blocks of a message, and then the levels above. Assumes nothing.
-use mathlib.Core.Path.{_≡_, sym, ap, ap₂, _∙_}
+use mathlib.Core.Path.{_≡_, sym, ap, ap₂, _∙_, subst}
 use mathlib.Core.List.{List}
 use Prim.Native.Nat.{ℕ, _*_, _/_, _^_}
-use native.Mathlib.Nat.{mul-comm, mul-div-cancel}
+use native.Mathlib.Nat.{mul-comm, mul-div-cancel, one-mul}
 use native.Mathlib.Omega.{arith}
 use lib.ListN.{length, take, length-take}
+use lib.Seq.{take-all}
 use Rattle.algebra.specs.Words.{PrimeField}
 use Rattle.algebra.specs.WordLists.{low-words, elements, toWords, elements-words, length-elements}
 use Rattle.foldable.specs.Code.{encode}
-use Rattle.foldable.specs.Lift.{lift}
+use Rattle.foldable.specs.Lift.{lift, spread}
 use Rattle.blocks.specs.Base.{baseBlocks}
 use Rattle.blocks.specs.Lifted.{lift-base}
-use Rattle.parameters.specs.Lent.{lent}
+use Rattle.parameters.specs.Lent.{lent, Coding}
+use Rattle.code.specs.Encoding.{EncodeInput}
 use Rattle.code.specs.Steps.{LiftInput}
+use Rattle.job.specs.Limits.{blockSize}
 use Rattle.job.specs.SizeLaws.{size-least}
 use Rattle.cofactor.specs.RowLaws.{rows-count}
 use Rattle.base_spread.specs.LentRows.{lentRows}
 use Rattle.base_spread.specs.LentRowLaws.{first-within, lift-rows, first-coding}
 use Rattle.base_spread.specs.Steps.{SpreadLent, blocksOf, EncodeLent}
-use Rattle.base_spread.proofs.Spreading.{length-blocks}
+use Rattle.base_spread.proofs.Spreading.{length-blocks, one-blocks}
 
 module _ (𝓕 : PrimeField) (d k n : ℕ) (g t t' m out : List ℕ) (𝓔 : EncodeLent 𝓕 d k n g t t' m out) where
   open PrimeField 𝓕 using (field as F)
@@ -59,3 +62,26 @@ module _ (𝓕 : PrimeField) (d k n : ℕ) (g t t' m out : List ℕ) (𝓔 : Enc
       (sym (lift-rows 𝓕 k n g t t' (first-within 𝓕 𝓖) d (elements 𝓕 w))
       ∙ ap (lift F C d) (ap (elements 𝓕) e ∙ elements-words 𝓕 _ ∙ ap (λ b. baseBlocks F C b M) count)
       ∙ lift-base F C d (𝓔 .coding .legal) M (length-elements 𝓕 m ∙ 𝓔 .message ∙ ap (λ c. c * 2 ^ d) (sym rows-are)))
+
+  -- one word a base message: the row is the whole of g
+  module _ (e : k ≡ 1) where
+    pub row-is : length g ≡ n
+    row-is = 𝓔 .coding .lent .long ∙ ap (λ c. c * n) e ∙ one-mul n
+
+    whole : take n g ≡ g
+    whole = take-all n g (omega (arith, row-is))
+
+    pub one-lent : EncodeInput 𝓕 d g t t' m (length out)
+    one-lent =
+        record {
+          coding = subst (λ h. Coding 𝓕 d h t t') whole (first-coding 𝓕 (𝓔 .coding));
+          message = 𝓔 .message ∙ ap (λ c. c * 2 ^ d) e ∙ one-mul (2 ^ d);
+          words = 𝓔 .words;
+          size = 𝓔 .size ∙ ap (λ c. blockSize c d) (sym row-is);
+        }
+
+    pub one-encoded : (r : List ℕ) → r ≡ toWords 𝓕 (lift F (lent 𝓕 g t t') d (spread F (elements 𝓕 g) (elements 𝓕 m))) → r ≡ toWords 𝓕 (encode F (lentRows 𝓕 k n g t t') d (elements 𝓕 m))
+    one-encoded r q =
+        let v = spread F (elements 𝓕 g) (elements 𝓕 m) in
+        encoded (toWords 𝓕 v) r (one-blocks 𝓕 k n g m out spreading e)
+        (q ∙ ap₂ (λ h w. toWords 𝓕 (lift F (lent 𝓕 h t t') d w)) (sym whole) (sym (elements-words 𝓕 v)))

@@ -10,6 +10,7 @@ pub mod block;
 pub mod spread;
 
 // Above the base blocks the code is that of any one row of n words: the first is lent for its length.
+// One row, the most frequent case, has 16 words at most, and is encoded in loose words from the start.
 pub fn encode_rows(
     depth: u32,
     k: usize,
@@ -24,6 +25,12 @@ pub fn encode_rows(
     requires { ⌜ EncodeLent (chosen field) depth k n (now g) (now t) (now t2) (now m) (now out) ⌝ }
     ensures { λ _. ⌜ now (out .exit) ≡ codewordRows (chosen field) depth k n (now (g .entry)) (now (t .entry)) (now (t2 .entry)) (now (m .entry)) ⌝ }
 {
+    if k == 1 {
+        if n <= 16 {
+            row_code::encode_row(depth, g, t, t2, m, out, field);
+            return;
+        }
+    }
     spread::spread_rows(k, n, g, m, out, field);
     lift::lift(depth, &g[..n], t, t2, out, field);
 }

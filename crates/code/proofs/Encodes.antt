@@ -12,7 +12,7 @@ use Rattle.job.specs.Limits.{blockSize}
 use Rattle.parameters.specs.Lent.{lent}
 use Rattle.code.specs.Encoding.{EncodeInput}
 use Rattle.code.specs.Steps.{SpreadInput, LiftInput}
-use Rattle.code.proofs.Spreads.{length-spreaded, spreaded}
+use Rattle.code.specs.Spreads.{length-spreaded, spreaded}
 
 module _ (𝓕 : PrimeField) where
   open PrimeField 𝓕 using (field as F)

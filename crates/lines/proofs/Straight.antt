@@ -14,11 +14,15 @@ use Rattle.algebra.specs.WordLists.{elements, toWords, length-elements, length-
 use Rattle.foldable.specs.Code.{line, foldAlong}
 use Rattle.foldable.specs.Level.{Level, level, length-level, getD-level}
 use Rattle.residue.specs.ResidueLaws.{stands}
-use Rattle.inversion.specs.Inversion.{gap, gapInverses, Diagonals}
-use Rattle.inversion.specs.InversionLaws.{getD-rows, elements-differ}
+use Rattle.residue.specs.declared.Field.{Field as Choice}
+use Rattle.residue.specs.Chosen.{chosen}
+use Rattle.inversion.specs.Inversion.{gap, Diagonals}
+use Rattle.inversion.specs.InversionLaws.{elements-differ}
+use Rattle.inversion.specs.Scaled.{ScaledInverses}
 use Rattle.lines.specs.Folds.{foldWords}
-use Rattle.lines.specs.Steps.{lineBy, linesBy}
+use Rattle.lines.specs.Steps.{lineBy, unscaled, linesBy}
 use Rattle.lines.specs.Laws.{line-by}
+use Rattle.lines.proofs.Loose.{unscaled-is}
 
 module _ (𝓕 : PrimeField) where
   infixl 65 _⊞_
@@ -26,7 +30,7 @@ module _ (𝓕 : PrimeField) where
   infixl 70 _⊠_
   open PrimeField 𝓕 using (field as F, words as W)
   open Field F using (ring as K, inv)
-  open Ring K using (_+_ as _⊞_, _*_ as _⊠_, _-_ as _⊟_)
+  open Ring K using (R as Element, _+_ as _⊞_, _*_ as _⊠_, _-_ as _⊟_)
   open Words W using (el, val as word)
 
   -- one place of a line, from its words
@@ -63,21 +67,29 @@ module _ (𝓕 : PrimeField) where
         getD-level F (line F (el a)) level-of k (omega (arith, left))
         ∙ (λ i. line F (el a) (getD-elements 𝓕 t k i) (getD-elements 𝓕 t2 k i) (u i) (v i))
 
-    pub drawn : (s : List ℕ) → s ≡ gapInverses 𝓕 1 n t t2 → toWords 𝓕 (row n (linesBy 𝓕 n (el a) t w s)) ≡ foldWords 𝓕 n t t2 w a
-    drawn s e =
+    drawn-by : (q : ℕ → Element) → ((k : ℕ) → k < n → q k ≡ inv (gap 𝓕 1 t t2 k))
+        → toWords 𝓕 (row n (λ j. lineBy 𝓕 (el a) (el (getD t j 0)) (q j) (el (getD w j 0)) (el (getD w (n + j) 0)))) ≡ foldWords 𝓕 n t t2 w a
+    drawn-by q e =
         ap (toWords 𝓕)
-        (ext-getD (K .𝟘) (row n (linesBy 𝓕 n (el a) t w s)) (foldAlong F n (el a) (elements 𝓕 t) (elements 𝓕 t2) (elements 𝓕 w))
-        (length-row n (linesBy 𝓕 n (el a) t w s) ∙ sym (length-level F (line F (el a)) level-of ∙ left))
-        (λ k h. same k (omega (arith, length-row n (linesBy 𝓕 n (el a) t w s)))))
+        (ext-getD (K .𝟘) (row n lines) (foldAlong F n (el a) (elements 𝓕 t) (elements 𝓕 t2) (elements 𝓕 w))
+        (length-row n lines ∙ sym (length-level F (line F (el a)) level-of ∙ left))
+        (λ k h. same k (omega (arith, length-row n lines))))
       where
-        inverse : (k : ℕ) → k < n → el (getD s k 0) ≡ inv (el (getD t2 k 0) ⊟ el (getD t k 0))
-        inverse k h =
-            stands 𝓕 _ (ap (λ l. getD l k 0) e ∙ getD-rows 𝓕 n (λ i. inv (gap 𝓕 1 t t2 i)) k h) ∙ ap (λ i. inv (el (getD t2 i 0) ⊟ el (getD t i 0))) (mul-one k)
+        lines : ℕ → Element
+        lines j = lineBy 𝓕 (el a) (el (getD t j 0)) (q j) (el (getD w j 0)) (el (getD w (n + j) 0))
 
-        same : (k : ℕ) → k < n
-            → getD (row n (linesBy 𝓕 n (el a) t w s)) k (K .𝟘) ≡ getD (foldAlong F n (el a) (elements 𝓕 t) (elements 𝓕 t2) (elements 𝓕 w)) k (K .𝟘)
+        inverse : (k : ℕ) → k < n → q k ≡ inv (el (getD t2 k 0) ⊟ el (getD t k 0))
+        inverse k h = e k h ∙ ap (λ i. inv (el (getD t2 i 0) ⊟ el (getD t i 0))) (mul-one k)
+
+        same : (k : ℕ) → k < n → getD (row n lines) k (K .𝟘) ≡ getD (foldAlong F n (el a) (elements 𝓕 t) (elements 𝓕 t2) (elements 𝓕 w)) k (K .𝟘)
         same k h =
-            getD-row n (linesBy 𝓕 n (el a) t w s) k (K .𝟘) h
+            getD-row n lines k (K .𝟘) h
             ∙ ap (λ x. el (getD w k 0) ⊞ (el a ⊟ el (getD t k 0)) ⊠ (x ⊠ (el (getD w (n + k) 0) ⊟ el (getD w k 0)))) (inverse k h)
             ∙ line-by 𝓕 (el a) (el (getD t k 0)) (el (getD t2 k 0)) (el (getD w k 0)) (el (getD w (n + k) 0))
             ∙ sym (at k h)
+
+-- and so are those from loose words
+pub drawn : (f : Choice) {n : ℕ} {t t2 : List ℕ} → Diagonals (chosen f) 1 n t t2 → length t ≡ n → length t2 ≡ n → (w : List ℕ) → length w ≡ n + n → (a : ℕ) (s : List ℕ)
+    → ScaledInverses f n t t2 s → toWords (chosen f) (row n (linesBy f n (chosen f .words .el a) t w s)) ≡ foldWords (chosen f) n t t2 w a
+drawn f D first second w sized a s S =
+    drawn-by (chosen f) D first second w sized a (λ k. unscaled f (getD s k 0)) (λ k h. unscaled-is f (getD s k 0) _ (S .stand k h))

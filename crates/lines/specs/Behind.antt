@@ -8,6 +8,9 @@ use Rattle.algebra.specs.Field.{Field}
 use Rattle.algebra.specs.Lists.{row}
 use Rattle.algebra.specs.Words.{PrimeField}
 use Rattle.algebra.specs.WordLists.{Low, toWords}
+use Rattle.residue.specs.declared.Field.{Field as Choice}
+use Rattle.residue.specs.Chosen.{chosen}
+use Rattle.residue.specs.Scale.{room}
 use Rattle.inversion.specs.Inversion.{Diagonals}
 use Rattle.lines.specs.Folds.{foldWords}
 use Rattle.lines.specs.Steps.{linesBy}
@@ -20,21 +23,24 @@ blockBefore t w = take (length t + length t) w
 abbrev pub behind : List ℕ → List ℕ → List ℕ
 behind t w = drop (length t + length t) w
 
-module _ (𝓕 : PrimeField) where
-  open PrimeField 𝓕 using (modulus as P, field as F)
+module _ (f : Choice) where
+  open PrimeField (chosen f) using (modulus as P, field as F)
   open Field F using (ring as K)
   open Ring K using (R as Element)
 
-  -- the inverses behind the block
+  -- loose words for the inverses, behind the block
   pub record BehindLent (t w : List ℕ) : Type 0 where
     pub whole : length w ≡ length t + length t + length t
     pub low : Low P t
     pub block : Low P (blockBefore t w)
-    pub inverses : Low P (behind t w)
+    pub inverses : Low (room f) (behind t w)
 
   -- give way to the lines
   abbrev pub drawnBehind : Element → List ℕ → List ℕ → List ℕ
-  drawnBehind a t w = blockBefore t w ++ toWords 𝓕 (row (length t) (linesBy 𝓕 (length t) a t (blockBefore t w) (behind t w)))
+  drawnBehind a t w = blockBefore t w ++ toWords (chosen f) (row (length t) (linesBy f (length t) a t (blockBefore t w) (behind t w)))
+
+module _ (𝓕 : PrimeField) where
+  open PrimeField 𝓕 using (modulus as P)
 
   -- diagonals, and room for the fold behind the block
   pub record FoldBehindLent (t t2 w : List ℕ) : Type 0 where

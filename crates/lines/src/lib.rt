@@ -25,6 +25,6 @@ pub fn fold_block(
     requires { ⌜ Diagonals (chosen field) 1 (length (now out)) (now t) (now t2) × (length (now t) ≡ length (now out)) × (length (now t2) ≡ length (now out)) × (length (now block) ≡ length (now out) + length (now out)) × LowWords (P (chosen field)) (now block) × Low (chosen field) challenge ⌝ }
     ensures { λ _. ⌜ now (out .exit) ≡ foldWords (chosen field) (length (now (out .entry))) (now (t .entry)) (now (t2 .entry)) (now (block .entry)) (challenge .0) ⌝ }
 {
-    inversion::invert_neighbours(t, t2, out, field);
+    rows::invert_scaled(t, t2, out, field);
     draw::draw(t, block, challenge, out, field);
 }

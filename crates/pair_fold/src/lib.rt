@@ -15,6 +15,6 @@ pub fn fold_pairs_lent(t: &[u32], t2: &[u32], block: &[u32], challenge: Pair, ou
     ensures { λ _. ⌜ now (out .exit) ≡ foldPairWords 𝔽₁ no-root₁ (now (t .entry)) (now (t2 .entry)) (now (block .entry)) (pairOf 𝔽₁ challenge) ⌝ }
 {
     let n = t.len();
-    inversion::invert_neighbours(t, t2, &mut out[..n], Field::First);
+    inversion::invert_gaps(1, t, t2, &mut out[..n], Field::First);
     lines::draw(t, block, challenge, out);
 }

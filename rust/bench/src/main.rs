@@ -5,10 +5,9 @@
 
 mod report;
 
-use report::measure::Plan;
-use std::ops::RangeInclusive;
 use std::process::ExitCode;
-use tvarchula_bench::MAX_DEPTH;
+use tvarchula_bench::timing::measure::Plan;
+use tvarchula_bench::timing::options::{depths, number};
 
 const USAGE: &str = "usage: tvarchula-bench [--quick] [--rate 8] [--depths 10,14,16]";
 
@@ -41,21 +40,10 @@ fn options(mut arguments: impl Iterator<Item = String>) -> Option<Options> {
     while let Some(argument) = arguments.next() {
         match argument.as_str() {
             "--quick" => options.plan = Plan::QUICK,
-            "--rate" => options.rate = parsed(&arguments.next()?, 2..=16)?,
-            "--depths" => {
-                let depth = |text| parsed(text, 1..=MAX_DEPTH as usize);
-                options.depths = arguments
-                    .next()?
-                    .split(',')
-                    .map(depth)
-                    .collect::<Option<_>>()?;
-            }
+            "--rate" => options.rate = number(&arguments.next()?, 2..=16)?,
+            "--depths" => options.depths = depths(&arguments.next()?)?,
             _ => return None,
         }
     }
     Some(options)
-}
-
-fn parsed(text: &str, legal: RangeInclusive<usize>) -> Option<usize> {
-    text.parse().ok().filter(|number| legal.contains(number))
 }

@@ -1,30 +1,24 @@
-use mathlib.Core.Path.{_≡_, ap, sym, _∙_}
+use mathlib.Core.Path.{ap, sym, _∙_}
 use Prim.Native.Nat.{_+_}
-use lib.ListN.{length}
 use Rattle.algebra.specs.Lists.{row}
-use Rattle.algebra.specs.WordLists.{toWords, low-words}
+use Rattle.algebra.specs.WordLists.{toWords}
 use Rattle.residue.specs.Elements.{elem}
 use Rattle.residue.specs.Chosen.{chosen}
-use Rattle.inversion.specs.InversionLaws.{length-rows}
 use Rattle.lines.specs.Steps.{linesBy}
 use Rattle.lines.proofs.Straight.{drawn}
 use borrow.Author.Needs.{needs}
 use Rattle.lines.proofs.fold_block.Statement.{statement}
 use Rattle.lines.proofs.fold_block.Tie as tie
 
-invert-neighbours-requires : tie.Need-invert-neighbours-requires
-invert-neighbours-requires c κs = search needs
-
--- the inverses are as many as the result's words
-sized : (c : tie.After-invert-neighbours) → length (c .invert-neighbours .last .1 .1 .0) ≡ length (c .before .before .before .before .before .before .args .out .now)
-sized c = ap length (c .invert-neighbours .ensures) ∙ length-rows (chosen (c .before .before .before .before .before .before .args .field)) _ _
+invert-scaled-requires : tie.Need-invert-scaled-requires
+invert-scaled-requires c κs = search needs
 
 draw-requires : tie.Need-draw-requires
 draw-requires c κs =
     let p = c .before .before .before .before .before .before .before .before .before .pre in
-    let made = c .before .before .before .invert-neighbours .ensures in
-    let same = sized (c .before .before .before) in
-    (p .5, record { first = p .1 ∙ sym same; whole = p .3 ∙ ap (λ n. n + n) (sym same); low = p .0 .low; block = p .4; inverses = rw made (low-words (chosen (c .before .before .before .before .before .before .before .before .before .args .field)) _) })
+    let made = c .before .before .before .invert-scaled .ensures in
+    let same = made .sized in
+    (p .5, record { first = p .1 ∙ sym same; whole = p .3 ∙ ap (λ n. n + n) (sym same); low = p .0 .low; block = p .4; inverses = made .low })
 
 same-length : tie.Need-same-length
 same-length c = search needs
@@ -34,11 +28,11 @@ returns c =
     let s = c .before .before .before .before .before .before .before .before .before .before .before .before in
     let a = s .args in
     let 𝓕 = chosen (a .field) in
-    let made = c .before .before .before .before .before .before .invert-neighbours in
+    let made = c .before .before .before .before .before .before .invert-scaled in
     let s′ = made .last .1 .1 .0 in
     c .before .before .draw .ensures
-    ∙ ap (λ n. toWords 𝓕 (row n (linesBy 𝓕 n (elem 𝓕 (a .challenge)) (a .t .now) (a .block .now) s′))) (sized (c .before .before .before .before .before .before))
-    ∙ drawn 𝓕 (s .pre .0) (s .pre .1) (s .pre .2) (a .block .now) (s .pre .3) (a .challenge .0) s′ (made .ensures)
+    ∙ ap (λ n. toWords 𝓕 (row n (linesBy (a .field) n (elem 𝓕 (a .challenge)) (a .t .now) (a .block .now) s′))) (made .ensures .sized)
+    ∙ drawn (a .field) (s .pre .0) (s .pre .1) (s .pre .2) (a .block .now) (s .pre .3) (a .challenge .0) s′ (made .ensures)
 
 pub fold-block-spec : {M : Type 1} → statement M
-fold-block-spec = tie.close (tie.spec invert-neighbours-requires draw-requires same-length returns)
+fold-block-spec = tie.close (tie.spec invert-scaled-requires draw-requires same-length returns)

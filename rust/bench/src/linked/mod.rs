@@ -20,6 +20,8 @@ pub struct Library<const FIELD: bool>;
 #[derive(Clone, Copy, Debug)]
 pub struct Before;
 
+#[cfg(native)]
+pub mod native;
 mod products;
 
 /// What the library exports, and what its sources export for the benchmark.

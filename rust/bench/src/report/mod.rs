@@ -1,13 +1,9 @@
 //! The report: what is measured, and the tables that tell it.
 
 mod blocks;
-mod clock;
 mod filling;
-mod machine;
-pub mod measure;
 mod products;
 mod scan;
-mod table;
 mod times;
 
 use blocks::Blocks;
@@ -19,13 +15,14 @@ use table::Table;
 use times::{Case, Times, CASES, FOLD_ONE_CHAIN, LISTS, NAMES};
 use times::{BEFORE, LIBRARY, LIBRARY_2, PLAIN, PLAIN_2, REMAINDER};
 use tvarchula_bench::plain::{Barrett, Mersenne};
+use tvarchula_bench::timing::{machine, measure, micros, ratio, table};
 use tvarchula_bench::{Buffers, Inputs, Sizes};
 
 /// What stands above each table.
 const TIMES: &str = "\
 One call of each job, in microseconds of the thread's processor time: the median and the least of all samples. A ratio
 is the median of the samples' ratios with its quartiles; behind it stands the ratio of the two least times. Plain Rust works
-as the library does: a fold inverts in sixteen chains of products on both sides. `fold, one chain` has plain Rust invert
+as the library did before W9: a fold inverts in sixteen chains of products on both sides. `fold, one chain` has plain Rust invert
 in one chain, as is usual. Verifying takes another list of queries in each call. Over the first field plain Rust reduces products by the shape of the Mersenne prime.";
 const BY_REMAINDER: &str = "\
 The same beside plain Rust that reduces products by `%`.";
@@ -62,7 +59,7 @@ pub fn print(plan: Plan, rate: usize, depths: &[usize]) {
     let samples = plan.rounds * plan.samples;
     println!(
         "{} Rate {rate}. {samples} samples in {} rounds.\n",
-        machine::line(),
+        machine::line("plain Rust"),
         plan.rounds
     );
     print_times(&lent, &measured.times);
@@ -176,17 +173,6 @@ fn compared(lent: &[[Inputs; 2]], times: &[Vec<Times>], all: &[Ratio]) -> Table 
         }
     }
     table
-}
-
-/// The median, and the quartiles in brackets.
-fn ratio([lower, median, upper]: [f64; 3]) -> String {
-    format!("{median:.2} ({lower:.2} to {upper:.2})")
-}
-
-/// The least sizes take some nanoseconds.
-fn micros(nanos: f64) -> String {
-    let digits = if nanos < 1000.0 { 3 } else { 1 };
-    format!("{:.digits$}", nanos / 1000.0)
 }
 
 /// Nanoseconds for each word of a job's main slice, at all depths.

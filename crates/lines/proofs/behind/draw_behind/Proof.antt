@@ -9,7 +9,7 @@ use Rattle.lines.proofs.behind.draw_behind.Statement.{statement}
 use Rattle.lines.proofs.behind.draw_behind.Tie as tie
 
 abbrev Inv-loop : tie.InvT-loop
-Inv-loop t challenge w₀ field n m j₀ w j = DrawnTo (chosen field) j (elem (chosen field) challenge) t w₀ w
+Inv-loop t challenge w₀ field n m j₀ w j = DrawnTo field j (elem (chosen field) challenge) t w₀ w
 
 abbrev μ-loop : tie.MeasureT-loop
 μ-loop t challenge w₀ field n m j₀ w j = length t - j
@@ -18,7 +18,7 @@ add-m : tie.Need-add-m Inv-loop μ-loop
 add-m c = search needs
 
 loop-holds : tie.Need-loop-holds Inv-loop μ-loop
-loop-holds c = let s = c .before .before in let a = s .args in let 𝓕 = chosen (a .field) in draw-none 𝓕 (elem 𝓕 (a .challenge)) (a .t .now) (a .w .now) (s .pre .1)
+loop-holds c = let s = c .before .before in let a = s .args in let 𝓕 = chosen (a .field) in draw-none (a .field) (elem 𝓕 (a .challenge)) (a .t .now) (a .w .now) (s .pre .1)
 
 add-k : tie.Need-add-k Inv-loop μ-loop
 add-k c = search needs
@@ -57,7 +57,7 @@ line-word-requires c κs =
     let 𝓕 = chosen (a .field) in
     let l = c .before .before .before .before .before .loop in
     let e = elem 𝓕 (a .challenge) in
-    (s .pre .0, s .pre .1 .low .low (l .j) (omega arith), low-behind 𝓕 e (a .t .now) (a .w .now) (s .pre .1) (l .j) (l .w) (omega arith) (l .inv), low-left 𝓕 e (a .t .now) (a .w .now) (s .pre .1) (l .j) (l .w) (omega arith) (l .inv), low-right 𝓕 e (a .t .now) (a .w .now) (s .pre .1) (l .j) (l .w) (omega arith) (l .inv))
+    (s .pre .0, s .pre .1 .low .low (l .j) (omega arith), low-behind (a .field) e (a .t .now) (a .w .now) (s .pre .1) (l .j) (l .w) (omega arith) (l .inv), low-left (a .field) e (a .t .now) (a .w .now) (s .pre .1) (l .j) (l .w) (omega arith) (l .inv), low-right (a .field) e (a .t .now) (a .w .now) (s .pre .1) (l .j) (l .w) (omega arith) (l .inv))
 
 mul-w : tie.Need-mul-w Inv-loop μ-loop
 mul-w c = search needs
@@ -77,7 +77,7 @@ loop-again c =
     let a = s .args in
     let 𝓕 = chosen (a .field) in
     let l = c .before .before .before .before .before .before .loop in
-    draw-turn 𝓕 (elem 𝓕 (a .challenge)) (a .t .now) (a .w .now) (s .pre .1) (l .j) (l .w) (omega arith) (l .inv) _ (c .line-word .ensures)
+    draw-turn (a .field) (elem 𝓕 (a .challenge)) (a .t .now) (a .w .now) (s .pre .1) (l .j) (l .w) (omega arith) (l .inv) _ (c .line-word .ensures)
 
 same-length : tie.Need-same-length Inv-loop μ-loop
 same-length c = search needs
@@ -88,7 +88,7 @@ returns c =
     let a = s .args in
     let 𝓕 = chosen (a .field) in
     let l = c .before .loop in
-    draw-end 𝓕 (elem 𝓕 (a .challenge)) (a .t .now) (a .w .now) (s .pre .1) (l .j) (l .w) (omega arith) (l .inv)
+    draw-end (a .field) (elem 𝓕 (a .challenge)) (a .t .now) (a .w .now) (s .pre .1) (l .j) (l .w) (omega arith) (l .inv)
 
 pub draw-behind-spec : {M : Type 1} → statement M
 draw-behind-spec =

@@ -1,7 +1,7 @@
 use mathlib.Core.Path.{_∙_}
 use Rattle.residue.specs.Elements.{el, elem, word}
 use Rattle.residue.specs.Chosen.{chosen}
-use Rattle.lines.specs.Steps.{lineBy}
+use Rattle.lines.specs.Steps.{lineBy, unscaled}
 use borrow.Author.Needs.{needs}
 use Rattle.lines.proofs.behind.line_word.Statement.{statement}
 use Rattle.lines.proofs.behind.line_word.Tie as tie
@@ -15,9 +15,6 @@ new-requires-2 c κs = search needs
 new-requires-3 : tie.Need-new-requires-3
 new-requires-3 c κs = search needs
 
-new-requires-4 : tie.Need-new-requires-4
-new-requires-4 c κs = search needs
-
 line-requires : tie.Need-line-requires
 line-requires c κs = search needs
 
@@ -26,10 +23,10 @@ word-requires c κs = search needs
 
 returns : tie.Need-returns
 returns c =
-    let 𝓕 = chosen (c .before .before .before .before .before .before .args .field) in
-    let a = c .before .before .before .before .before .before .args .a in
+    let a = c .before .before .before .before .before .args in
+    let 𝓕 = chosen (a .field) in
     c .word .ensures ∙ c .before .line .ensures
-    ∙ (λ k. word 𝓕 (lineBy 𝓕 (elem 𝓕 a) (el 𝓕 (c .before .before .before .before .before .new .ensures k)) (el 𝓕 (c .before .before .before .before .new2 .ensures k)) (el 𝓕 (c .before .before .before .new3 .ensures k)) (el 𝓕 (c .before .before .new4 .ensures k))))
+    ∙ (λ k. word 𝓕 (lineBy 𝓕 (elem 𝓕 (a .a)) (el 𝓕 (c .before .before .before .before .new .ensures k)) (unscaled (a .field) (a .s)) (el 𝓕 (c .before .before .before .new2 .ensures k)) (el 𝓕 (c .before .before .new3 .ensures k))))
 
 pub line-word-spec : {M : Type 1} → statement M
 line-word-spec =
@@ -38,7 +35,6 @@ line-word-spec =
     new-requires
     new-requires-2
     new-requires-3
-    new-requires-4
     line-requires
     word-requires
     returns)

@@ -1,4 +1,4 @@
-use Rattle.lines.specs.Steps.{lineBy, linesBy}
+use Rattle.lines.specs.Steps.{lineBy, unscaled, linesBy}
 use Rattle.residue.specs.Elements.{el, elem, word}
 use Rattle.residue.specs.Chosen.{chosen}
 use Prim.Native.Nat.{_-_, _+_, _≤_}
@@ -14,7 +14,7 @@ use Rattle.lines.proofs.draw.draw.Statement.{statement}
 use Rattle.lines.proofs.draw.draw.Tie as tie
 
 abbrev Inv-loop : tie.InvT-loop
-Inv-loop t block challenge out₀ field j₀ out j = (j ≤ length out₀) × (length out ≡ length out₀) × Filled j (toWords (chosen field) (row (length out₀) (linesBy (chosen field) (length out₀) (elem (chosen field) challenge) t block out₀))) out₀ out
+Inv-loop t block challenge out₀ field j₀ out j = (j ≤ length out₀) × (length out ≡ length out₀) × Filled j (toWords (chosen field) (row (length out₀) (linesBy field (length out₀) (elem (chosen field) challenge) t block out₀))) out₀ out
 
 abbrev μ-loop : tie.MeasureT-loop
 μ-loop t block challenge out₀ field j₀ out j = length out₀ - j
@@ -60,11 +60,11 @@ loop-again c =
     let 𝓕 = chosen (a .field) in
     let l = c .before .before .before .before .loop in
     let n = length (a .out .now) in
-    let f = linesBy 𝓕 n (elem 𝓕 (a .challenge)) (a .t .now) (a .block .now) (a .out .now) in
+    let f = linesBy (a .field) n (elem 𝓕 (a .challenge)) (a .t .now) (a .block .now) (a .out .now) in
     let old = filled-old (l .inv .2) (l .j) 0 (omega arith) in
     let v =
     c .word .ensures ∙ c .before .line-at .ensures
-    ∙ (λ k. word 𝓕 (lineBy 𝓕 (elem 𝓕 (a .challenge)) (el 𝓕 (getD (a .t .now) (l .j) 0)) (el 𝓕 (old k)) (el 𝓕 (getD (a .block .now) (l .j) 0)) (el 𝓕 (getD (a .block .now) (l .inv .1 k + l .j) 0))))
+    ∙ (λ k. word 𝓕 (lineBy 𝓕 (elem 𝓕 (a .challenge)) (el 𝓕 (getD (a .t .now) (l .j) 0)) (unscaled (a .field) (old k)) (el 𝓕 (getD (a .block .now) (l .j) 0)) (el 𝓕 (getD (a .block .now) (l .inv .1 k + l .j) 0))))
     ∙ sym (getD-rows 𝓕 n f (l .j) (omega arith)) in
     let p = filled-turn 0 (omega arith) (length-rows 𝓕 n f) (l .inv .2) v in
     (omega arith, filled-length p, p)
