@@ -18,6 +18,10 @@ module _ {A : Type 0} where
   abbrev pub count : {P : A → Type 0} → ((a : A) → Dec (P a)) → List A → ℕ
   count test xs = length (filter test xs)
 
+-- all lists of d words below p: the challenges r_0, .., r_{d-1} that a call may be lent
+abbrev pub challengeWords : ℕ → ℕ → List (List ℕ)
+challengeWords p d = lists (row p (λ j. j)) d
+
 -- the elements of a field whose words are below p: el 0, .., el (p - 1)
 unfoldable pub allElements : (𝓕 : PrimeField) → List (𝓕 .field .ring .R)
 allElements 𝓕 = row (𝓕 .modulus) (𝓕 .words .el)

@@ -1,19 +1,22 @@
 -- Every element of a field, and every list of challenges, is listed exactly once. Assumes nothing.
 use mathlib.Core.Path.{_≡_, sym, ap, _∙_, subst}
 use mathlib.Core.HLevel.{⊥-prop, ¬-prop}
-use mathlib.Core.Logic.{_≢_, _↔_, Or·elim, ∥∥₁-prop, ∥∥₁-elim, ∥∥₁-map}
+use mathlib.Core.Logic.{_≢_, _↔_, _⊎_, inl, inr, Or·elim, ∥∥₁-prop, ∥∥₁-elim, ∥∥₁-map}
 use mathlib.Core.List.{List, [], _∷_, _++_, map, flatMap, List·Mem, List·Mem-prop, List·Nodup, Disjoint, not-mem-nil, mem-cast, mem-cons-self, mem-cons-of-mem, eq-or-mem-of-mem-cons, mem-append, mem-append-left, mem-append-right, mem-map-of-mem, exists-of-mem-map, append-cancel-right, nodup-nil, nodup-cons, nodup-append, Pairwise·map}
-use Prim.Native.Nat.{ℕ, zero, suc, _+_, _^_, _<_}
+use Prim.Native.Nat.{ℕ, zero, suc, _+_, _^_, _<_, _≤_}
 use native.Mathlib.Nat.{ℕ-set, suc-inj, pow-zero, pow-succ'}
+use native.Mathlib.Bridge.{le-prop}
 use native.Mathlib.Numerals.{add-one}
 use native.Mathlib.Omega.{arith}
-use lib.ListN.{length, getD, take, length-append, length-map, length-take}
-use lib.Seq.{take-suc, take-all, getD-at}
+use lib.ListN.{length, getD, take, length-append, length-map, length-take, List·getD-append}
+use lib.Seq.{take-suc, take-all, getD-at, getD-take}
 use Rattle.algebra.specs.Ring.{Ring}
 use Rattle.algebra.specs.Field.{Field}
+use Rattle.algebra.specs.Order.{lt-or-ge}
 use Rattle.algebra.specs.Lists.{row, length-row, length-flatMap}
 use Rattle.algebra.specs.Words.{Words, PrimeField}
-use Rattle.counting.specs.Challenges.{lists, allElements, challenges}
+use Rattle.algebra.specs.WordLists.{Low}
+use Rattle.counting.specs.Challenges.{lists, challengeWords, allElements, challenges}
 
 module _ {A : Type 0} where
   mem-row : (n : ℕ) (f : ℕ → A) (j : ℕ) → j < n → List·Mem (f j) (row n f)
@@ -85,18 +88,31 @@ module _ {A : Type 0} (xs : List A) where
       (λ t. ∥∥₁-elim (exists-of-mem-map (t .2)) (ℕ-set _ _)
       (λ u. sym (ap length (u .2)) ∙ length-append (u .0) (t .0 ∷ []) ∙ ap (λ n. n + 1) (sized-lists d (u .0) (u .1)) ∙ add-one d))
 
-  -- each of them
-  pub every-list : ((a : A) → List·Mem a xs) → (d : ℕ) (r : List A) → length r ≡ d → List·Mem r (lists xs d)
-  unfolding lists
-  every-list every zero [] e = mem-cons-self
-  every-list every zero (x ∷ r) e = absurd (omega arith)
-  every-list every (suc d) [] e = absurd (omega arith)
-  every-list every (suc d) (z ∷ s) e =
-      let r = z ∷ s in
-      let x = getD r d z in
-      mem-cast (sym (sym (take-suc r d z (omega arith)) ∙ take-all (suc d) r (omega arith)))
-      (mem-flatMap (ending d) x xs (every x)
-      (mem-map-of-mem (λ s. s ++ (x ∷ [])) (every-list every d (take d r) (length-take d r ∙ omega arith))))
+  module _ (z : A) where
+    -- and of elements of xs
+    pub from-list : (d : ℕ) (r : List A) → List·Mem r (lists xs d) → (j : ℕ) → j < d → List·Mem (getD r j z) xs
+    unfolding lists
+    from-list zero r m j h = absurd (omega arith)
+    from-list (suc d) r m j h =
+        ∥∥₁-elim (of-flatMap (ending d) r xs m) List·Mem-prop
+        (λ t. ∥∥₁-elim (exists-of-mem-map (t .2)) List·Mem-prop
+        (λ u. subst (λ l. List·Mem (getD l j z) xs) (u .2) (at (u .0) (t .0) (t .1) (u .1) (from-list d (u .0) (u .1) j) (lt-or-ge j d))))
+      where
+        at : (s : List A) (x : A) → List·Mem x xs → List·Mem s (lists xs d) → (j < d → List·Mem (getD s j z) xs) → (j < d) ⊎ (d ≤ j) → List·Mem (getD (s ++ (x ∷ [])) j z) xs
+        at s x k l front (inl b) = mem-cast (List·getD-append s (x ∷ []) z j (omega (arith, sized-lists d s l))) (front b)
+        at s x k l front (inr b) = mem-cast (getD-at s x [] z j (sized-lists d s l ∙ omega arith)) k
+
+    -- each of them
+    pub every-list : (d : ℕ) (r : List A) → length r ≡ d → ((j : ℕ) → j < d → List·Mem (getD r j z) xs) → List·Mem r (lists xs d)
+    unfolding lists
+    every-list zero [] e each = mem-cons-self
+    every-list zero (x ∷ r) e each = absurd (omega arith)
+    every-list (suc d) r e each =
+        let x = getD r d z in
+        mem-cast (sym (sym (take-suc r d z (omega arith)) ∙ take-all (suc d) r (omega arith)))
+        (mem-flatMap (ending d) x xs (each d (omega arith))
+        (mem-map-of-mem (λ s. s ++ (x ∷ []))
+        (every-list d (take d r) (length-take d r ∙ omega arith) (λ j h. mem-cast (getD-take d r j z h) (each j (omega arith))))))
 
   -- none twice
   pub once-lists : List·Nodup xs → (d : ℕ) → List·Nodup (lists xs d)
@@ -112,10 +128,26 @@ module _ {A : Type 0} (xs : List A) where
           ∥∥₁-elim (exists-of-mem-map p) ⊥-prop (λ t. ∥∥₁-elim (exists-of-mem-map q) ⊥-prop (λ u.
           k (sym (getD-at (t .0) x [] x d (sized-lists d (t .0) (t .1))) ∙ ap (λ l. getD l d x) (t .2 ∙ sym (u .2)) ∙ getD-at (u .0) y [] x d (sized-lists d (u .0) (u .1)))))
 
+-- of the lists of d words below p there are p^d; a list is among them exactly when it has d words, all of them below p; and once
+pub length-challenge-words : (p d : ℕ) → length (challengeWords p d) ≡ p ^ d
+length-challenge-words p d = length-lists (row p (λ j. j)) d ∙ ap (λ n. n ^ d) (length-row p (λ j. j))
+
+pub every-challenge-words : (p d : ℕ) (r : List ℕ) → List·Mem r (challengeWords p d) ↔ ((length r ≡ d) × Low p r)
+every-challenge-words p d r = (λ m. (sized-lists words d r m, record { low = λ j h. below m j (omega (arith, sized-lists words d r m)) }), λ h. every-list words 0 d r (h .0) (λ j l. mem-row p (λ j. j) (getD r j 0) (h .1 .low j (omega (arith, h .0)))))
+  where
+    words : List ℕ
+    words = row p (λ j. j)
+
+    below : List·Mem r (challengeWords p d) → (j : ℕ) → j < d → getD r j 0 < p
+    below m j l = ∥∥₁-elim (of-row p (λ j. j) (getD r j 0) (from-list words 0 d r m j l)) le-prop (λ t. omega (arith, t .1, t .2))
+
+pub once-challenge-words : (p d : ℕ) → List·Nodup (challengeWords p d)
+once-challenge-words p d = once-lists (row p (λ j. j)) (nodup-row p (λ j. j) (λ i j h k e. e)) d
+
 module _ (𝓕 : PrimeField) where
   open PrimeField 𝓕 using (modulus, field, words)
   open Field field using (ring as K)
-  open Ring K using (R)
+  open Ring K using (R, 𝟘)
   open Words words using (el, val, val-lt, el-val, val-el)
 
   pub all-there : (a : R) → List·Mem a (allElements 𝓕)
@@ -135,7 +167,7 @@ module _ (𝓕 : PrimeField) where
   length-challenges d = length-lists (allElements 𝓕) d ∙ ap (λ p. p ^ d) length-all
 
   pub every-challenges : (d : ℕ) (r : List R) → List·Mem r (challenges 𝓕 d) ↔ (length r ≡ d)
-  every-challenges d r = (sized-lists (allElements 𝓕) d r, every-list (allElements 𝓕) all-there d r)
+  every-challenges d r = (sized-lists (allElements 𝓕) d r, λ e. every-list (allElements 𝓕) 𝟘 d r e (λ j h. all-there (getD r j 𝟘)))
 
   pub once-challenges : (d : ℕ) → List·Nodup (challenges 𝓕 d)
   once-challenges = once-lists (allElements 𝓕) all-once

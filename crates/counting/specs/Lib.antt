@@ -6,6 +6,8 @@
 --     Tried               tried: over a finite field it is decided whether a block is a codeword
 pub mod Challenges
 pub mod Every
+pub mod Words
+pub mod Part
 pub mod Count
 pub mod Lucky
 pub mod Tried

@@ -14,6 +14,7 @@ use Rattle.algebra.specs.WordLists.{low-words, elements, length-elements, lengt
 use Rattle.foldable.specs.Code.{Codeword}
 use Rattle.foldable.specs.Encode.{double, length-encode}
 use Rattle.foldable.specs.Fold.{length-fold}
+use Rattle.basefold.specs.Descent.{legal-at}
 use Rattle.job.specs.declared.Answer.{Answer}
 use Rattle.job.specs.Outcome.{done, outcome, kept}
 use Rattle.job.specs.Limits.{blockSize}
@@ -54,29 +55,29 @@ module _ (𝓕 : PrimeField) where
     pub codeword-block : (m : List ℕ) → ResidueBlock 𝓕 d c k (codewordRows 𝓕 d k (baseSize c k) g t t' m)
     codeword-block m = record { sized = length-words 𝓕 _ ∙ length-encode F (lentRows 𝓕 k (baseSize c k) g t t') d (coding-of 𝓕 𝓡 .legal) (elements 𝓕 m); low = low-words 𝓕 _ }
 
-  module _ {i c k : ℕ} {g t t' : List ℕ} (𝓡 : LegalRows 𝓕 (suc i) c k g t t') where
-    -- the words of a base block
-    abbrev n : ℕ
-    n = baseSize c k
-
+  -- level i of the diagonals of all levels
+  module _ {d i c k : ℕ} {g t t' : List ℕ} (𝓡 : LegalRows 𝓕 d c k g t t') (h : i < d) where
     pub fold-writes : {w : List ℕ} {a : ℕ} {r : Answer} {out : List ℕ} → ResidueBlock 𝓕 (suc i) c k w → a < P → ExactFold 𝓕 i c k t t' w a r out
         → (outcome r ≡ done tt) × (out ≡ foldedLevel 𝓕 (baseSize c k) i t t' w a)
     fold-writes {w} {a} 𝓦 l e =
+        let n = baseSize c k in
         let one : suc i - 1 ≡ i = omega arith in
-        let j = folding-done 𝓕 𝓡 i w a (length (e .old)) (omega arith) (𝓦 .sized) (𝓦 .low) l (e .sized) in (
+        let j = folding-done 𝓕 𝓡 i w a (length (e .old)) h (𝓦 .sized) (𝓦 .low) l (e .sized) in (
           e .call .answer ∙ j,
           e .call .result ∙ ap (λ o. kept o (e .old) (foldWords 𝓕 (blockSize n (suc i - 1)) (diagonal n t i) (diagonal n t' i) w a)) j
               ∙ ap (λ x. foldWords 𝓕 (blockSize n x) (diagonal n t i) (diagonal n t' i) w a) one,
         )
 
-    folded-block : (w : List ℕ) (a : ℕ) → ResidueBlock 𝓕 (suc i) c k w → ResidueBlock 𝓕 i c k (foldedLevel 𝓕 n i t t' w a)
+    pub folded-block : (w : List ℕ) (a : ℕ) → ResidueBlock 𝓕 (suc i) c k w → ResidueBlock 𝓕 i c k (foldedLevel 𝓕 (baseSize c k) i t t' w a)
     folded-block w a 𝓦 =
+        let C = lentRows 𝓕 k (baseSize c k) g t t' in
         record {
-          sized = ap length (fold-is 𝓕 i k n g t t' w a) ∙ length-words 𝓕 _
-              ∙ length-fold F (lentRows 𝓕 k n g t t') i (coding-of 𝓕 𝓡 .legal) (el a) (elements 𝓕 w) (length-elements 𝓕 w ∙ 𝓦 .sized);
+          sized = ap length (fold-is 𝓕 i k (baseSize c k) g t t' w a) ∙ length-words 𝓕 _
+              ∙ length-fold F C i (legal-at F C d (suc i) h (coding-of 𝓕 𝓡 .legal)) (el a) (elements 𝓕 w) (length-elements 𝓕 w ∙ 𝓦 .sized);
           low = low-words 𝓕 _;
         }
 
+  module _ {i c k : ℕ} {g t t' : List ℕ} (𝓡 : LegalRows 𝓕 (suc i) c k g t t') where
     -- encoding, folding the block by a, and encoding left + a * right: none is refused, and the fold is that codeword
     pub fold-law-calls : {m : List ℕ} {a : ℕ} {r r₂ r₃ : Answer} {w b b' : List ℕ} → ResidueMessage 𝓕 (suc i) k m → a < P
         → ExactEncode 𝓕 (suc i) c k g t t' m r w → ExactFold 𝓕 i c k t t' w a r₂ b
@@ -84,9 +85,9 @@ module _ (𝓕 : PrimeField) where
         → (outcome r ≡ done tt) × (outcome r₂ ≡ done tt) × (outcome r₃ ≡ done tt) × (b ≡ b')
     fold-law-calls {m} {a} {w = w} 𝓜 l e f h =
         let x = encode-writes 𝓡 𝓜 e in
-        let y = fold-writes (subst (ResidueBlock 𝓕 (suc i) c k) (sym (x .1)) (codeword-block 𝓡 m)) l f in
+        let y = fold-writes 𝓡 (omega arith) (subst (ResidueBlock 𝓕 (suc i) c k) (sym (x .1)) (codeword-block 𝓡 m)) l f in
         let z = encode-writes (rows-below 𝓕 𝓡 i (omega arith)) (mixed-message i k a m (𝓜 .sized)) h in
-        (x .0, y .0, z .0, y .1 ∙ ap (λ v. foldedLevel 𝓕 n i t t' v a) (x .1) ∙ fold-law 𝓕 i c k g t t' 𝓡 m a (𝓜 .sized) ∙ sym (z .1))
+        (x .0, y .0, z .0, y .1 ∙ ap (λ v. foldedLevel 𝓕 (baseSize c k) i t t' v a) (x .1) ∙ fold-law 𝓕 i c k g t t' 𝓡 m a (𝓜 .sized) ∙ sym (z .1))
 
   settles : {d k n : ℕ} {g t t' w old : List ℕ} {r : Answer} {out : List ℕ} → Settled 𝓕 d k n g t t' w old r out → Decides r
   settles (message a l p e) = inl a
@@ -98,7 +99,7 @@ module _ (𝓕 : PrimeField) where
   decides-of j (settled j' s k) = settles s
 
   -- where base matrix and diagonals are legal and the block holds residues
-  decode-answers : {d c k : ℕ} {g t t' w : List ℕ} {r : Answer} → LegalRows 𝓕 d c k g t t' → ResidueBlock 𝓕 d c k w → ExactDecode 𝓕 d c k g t t' w r
+  pub decode-answers : {d c k : ℕ} {g t t' w : List ℕ} {r : Answer} → LegalRows 𝓕 d c k g t t' → ResidueBlock 𝓕 d c k w → ExactDecode 𝓕 d c k g t t' w r
       → Decides r × ((outcome r ≡ done tt) ↔ Codeword F (lentRows 𝓕 k (baseSize c k) g t t') d (elements 𝓕 w))
   decode-answers {d} {c} {k} {g} {t} {t'} {w} {r} 𝓡 𝓦 e =
       let j = decoding-done 𝓕 𝓡 w (length (e .old)) (length (e .space)) (𝓦 .sized) (𝓦 .low) (e .sized) (e .room) in
@@ -112,9 +113,9 @@ module _ (𝓕 : PrimeField) where
       → TwoChallenges r fa fb ra rb
   two-challenge-calls {i} {c} {k} {a} {b} {g} {t} {t'} {w} {wa} {wb} 𝓡 𝓦 la lb x e fa fb ea eb =
       let n = baseSize c k in
-      let y = fold-writes 𝓡 𝓦 la fa in
-      let z = fold-writes 𝓡 𝓦 lb fb in
-      let block : (v : List ℕ) (u : ℕ) → v ≡ foldedLevel 𝓕 n i t t' w u → ResidueBlock 𝓕 i c k v = λ v u q. subst (ResidueBlock 𝓕 i c k) (sym q) (folded-block 𝓡 w u 𝓦) in
+      let y = fold-writes 𝓡 (omega arith) 𝓦 la fa in
+      let z = fold-writes 𝓡 (omega arith) 𝓦 lb fb in
+      let block : (v : List ℕ) (u : ℕ) → v ≡ foldedLevel 𝓕 n i t t' w u → ResidueBlock 𝓕 i c k v = λ v u q. subst (ResidueBlock 𝓕 i c k) (sym q) (folded-block 𝓡 (omega arith) w u 𝓦) in
       let low = rows-below 𝓕 𝓡 i (omega arith) in
       let p = decode-answers 𝓡 𝓦 e in
       let q = decode-answers low (block wa a (y .1)) ea in

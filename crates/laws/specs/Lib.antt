@@ -16,6 +16,9 @@ pub mod CallLaws
 pub mod NotRefused
 pub mod Folds
 pub mod FoldCalls
+pub mod Descents
+pub mod Lucky
+pub mod LuckyCalls
 pub mod Filled
 pub mod Openings
 pub mod Equations
