@@ -1,8 +1,11 @@
 -- What the jobs promise together, over the definitions that their contracts cite.
 --     Calls, Commit, Equations   THE DEFINITIONS: calls on legal base matrix and diagonals; committing, opening and verifying in turn; what the verifier compares
+--     Descents                   .. and a block folded down to level 0, with how many lists of challenges leave a codeword
 --     CallLaws, NotRefused       the code of a legal base matrix; which calls are refused by none of 1 to 6 and 13
 --     Folds                      fold-law, two-challenge-law
 --     FoldCalls                  fold-law-calls, two-challenge-calls: the same, said of calls
+--     Lucky                      lucky-law, lucky-law-none, lucky-law-part: how often a block that is no codeword slips through
+--     LuckyCalls                 folds-down-calls, lucky-calls: the same, said of calls
 --     Filled                     filled-one, filled-row, filled-encodes: what is filled by rule is legal, and encoding writes the values of one polynomial
 --     Openings                   opening-accepted, opening-fails
 --     Accepts                    accepts-exactly, rejects-exactly: when the verifier answers 0, and when it names a check

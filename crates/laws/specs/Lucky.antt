@@ -1,6 +1,6 @@
 -- How often a block that is no codeword slips through folding. For any legal base matrix and diagonals: of the p^d lists of challenges at most p^d - (p-1)^d fold it into a
 -- codeword of level 0, which is at most d in p of them, and none at depth 0.
---     lucky-law, lucky-law-none, lucky-law-part
+--     lucky-law, lucky-law-none, lucky-law-part, lucky-sixteen
 -- Assumes nothing.
 use mathlib.Core.Path.{_≡_, refl, sym, ap, subst, _∙_}
 use mathlib.Core.List.{List, [], _∷_, filter-congr, List·Mem}
@@ -11,7 +11,8 @@ use native.Mathlib.Omega.{arith}
 use lib.ListN.{length, getD}
 use Rattle.algebra.specs.Field.{Field}
 use Rattle.algebra.specs.Ring.{Ring}
-use Rattle.algebra.specs.Words.{PrimeField}
+use Rattle.algebra.specs.Fields.{F₁}
+use Rattle.algebra.specs.Words.{PrimeField, 𝔽₁}
 use Rattle.algebra.specs.WordLists.{elements, toWords, elements-words, length-elements, getD-elements}
 use Rattle.foldable.specs.Code.{Code, Codeword, fold}
 use Rattle.counting.specs.Challenges.{challengeWords, allElements, challenges, folds, lucky}
@@ -87,3 +88,8 @@ module _ (𝓕 : PrimeField) where
     pub lucky-law-part : (w : List ℕ) → length w ≡ blockSize (baseSize c k) d → (Codeword F (lentRows 𝓕 k (baseSize c k) g t t') d (elements 𝓕 w) → ⊥)
         → luckyLists 𝓕 d k (baseSize c k) g t t' test w * P ≤ d * P ^ d
     lucky-law-part w e no-codeword = at-most-part (luckyLists 𝓕 d k (baseSize c k) g t t' test w) P d (lucky-few w e no-codeword)
+
+-- at depth 16 over the first field: at most 16 in 2147483647
+pub lucky-sixteen : {c k : ℕ} {g t t' : List ℕ} → LegalRows 𝔽₁ 16 c k g t t' → (test : BaseTest 𝔽₁ k (baseSize c k) g t t') (w : List ℕ) → length w ≡ blockSize (baseSize c k) 16
+    → (Codeword F₁ (lentRows 𝔽₁ k (baseSize c k) g t t') 16 (elements 𝔽₁ w) → ⊥) → luckyLists 𝔽₁ 16 k (baseSize c k) g t t' test w * 2147483647 ≤ 16 * 2147483647 ^ 16
+lucky-sixteen 𝓡 test w e no-codeword = lucky-law-part 𝔽₁ 𝓡 test w e no-codeword
