@@ -28,8 +28,8 @@
  * changes too. A program and its archive have MAJOR and MINOR in common. */
 #define TV_VERSION_MAJOR 0
 #define TV_VERSION_MINOR 7
-#define TV_VERSION_PATCH 1
-#define TV_VERSION "0.7.1"
+#define TV_VERSION_PATCH 2
+#define TV_VERSION "0.7.2"
 
 /* The field of a call: the integers modulo TV_MODULUS(field). Words do not tell their field: who writes and who verifies agree on it, as on
  * depth, rate and k0. A bool has no third value: of the numbers that C converts to one, 0 is TV_FIELD_1 and all others are TV_FIELD_2. From

@@ -21,7 +21,7 @@ use Rattle.basefold.specs.CheckLaws.{first-holds, first-fails, first-none}
 use Rattle.residue.specs.Elements.{elem}
 use Rattle.residue.specs.ResidueLaws.{stands}
 use Rattle.residue.specs.declared.Residue.{Residue}
-use Rattle.polynomial.specs.Evaluation.{EvaluateInput}
+use Rattle.polynomial.specs.Lent.{EvaluateInput}
 use Rattle.verdict.specs.Equality.{its-word, same-words}
 use Rattle.blocks.specs.Low.{finalSum-low}
 use Rattle.base_checks.specs.Steps.{lowCount, lastAt, LastLent}

@@ -26,8 +26,5 @@ module _ {k n q i b : ℕ} (𝓡 : Reached k n q i b) (h : i < k * q) where
   pub first-within : i + k ≤ k * q
   first-within = omega (arith, mul-le-mul-left {m = suc j} {n = q} k reached-less, mul-suc k j, 𝓡 .first)
 
-  pub second-within : b + n ≤ n * q
-  second-within = omega (arith, mul-le-mul-left {m = suc j} {n = q} n reached-less, mul-suc n j, 𝓡 .second)
-
   pub reached-next : (i' b' : ℕ) → i' ≡ i + k → b' ≡ b + n → Reached k n q i' b'
   reached-next i' b' e f = record { turn = suc j; most = reached-less; first = omega (arith, mul-suc k j, 𝓡 .first); second = omega (arith, mul-suc n j, 𝓡 .second) }

@@ -1,10 +1,10 @@
 -- Lists of one length, one behind the other, and the first places of blocks as such a list. Assumes nothing.
 use mathlib.Core.Path.{_≡_, refl, sym, ap, ap₂, _∙_}
-use mathlib.Core.List.{List, [], _∷_, _++_, flatMap}
+use mathlib.Core.List.{List, _++_, flatMap}
 use Prim.Native.Nat.{ℕ, zero, suc, _+_, _*_, _<_, _≤_}
 use native.Mathlib.Nat.{mul-zero, mul-suc, mul-le-mul-left}
 use native.Mathlib.Omega.{arith}
-use lib.ListN.{length, take, drop, length-append, length-take, length-drop, take-append-drop}
+use lib.ListN.{length, take, drop, length-append, length-take, length-drop}
 use lib.Seq.{take-at, drop-at, drop-drop}
 use Rattle.algebra.specs.Lists.{row, row-ext}
 use Rattle.algebra.specs.Matrix.{length-times}
@@ -62,16 +62,6 @@ module _ {A : Type 0} where
   pub pick-piece : (n k q : ℕ) (w : List A) → k ≤ n → length w ≡ n * q → (j : ℕ) → j < q → take k (drop (k * j) (pick n k q w)) ≡ take k (drop (n * j) w)
   pick-piece n k q w few e j h =
       ap (λ v. take k (drop (k * j) v)) (pick-pieces n k q w) ∙ piece (λ v. v) k q (λ i. take k (drop (n * i) w)) (front-length n k q w few e) j h
-
-  -- whole blocks picked, and the pieces of a list one behind the other, are the list
-  pick-all : (k q : ℕ) (w : List A) → length w ≡ k * q → pick k k q w ≡ w
-  unfolding pick
-  pick-all k zero [] e = refl
-  pick-all k zero (x ∷ w) e = absurd (omega (arith, mul-zero k))
-  pick-all k (suc q) w e = ap (λ v. take k w ++ v) (pick-all k q (drop k w) (length-drop k w ∙ omega (arith, mul-suc k q))) ∙ take-append-drop k w
-
-  pub join : (k q : ℕ) (w : List A) → length w ≡ k * q → flatMap (λ v. v) (row q (λ j. take k (drop (k * j) w))) ≡ w
-  join k q w e = sym (pick-pieces k k q w) ∙ pick-all k q w e
 
 -- at most four words solved are as many
 pub length-solved : (𝓕 : PrimeField) (m b : List ℕ) → length b ≤ 4 → length m ≡ 16 → length (solved 𝓕 m b) ≡ length b

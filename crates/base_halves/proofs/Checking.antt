@@ -21,7 +21,7 @@ use Rattle.job.specs.LimitLaws.{power-most}
 use Rattle.cofactor.specs.Rows.{rows}
 use Rattle.job.specs.SizeLaws.{size-most}
 use Rattle.base_spread.specs.LentRows.{codewordRows}
-use Rattle.base_spread.specs.Steps.{blockOf}
+use Rattle.base_block.specs.Blocks.{blockOf}
 use Rattle.halves_step.proofs.Places.{take-front}
 use Rattle.base_halves_step.specs.Steps.{BaseLent}
 use Rattle.base_halves.specs.Comparing.{CompareInput, Compared}

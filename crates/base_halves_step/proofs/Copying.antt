@@ -10,7 +10,7 @@ use borrow.Rule.Slice.PartMut.{putMid}
 use Rattle.algebra.specs.Words.{PrimeField}
 use Rattle.job.specs.Sizes.{Size, one, two, four}
 use Rattle.job.specs.SizeLaws.{size-most}
-use Rattle.base_spread.specs.Steps.{BlockLent, blockOf}
+use Rattle.base_block.specs.Blocks.{BlockLent, blockOf}
 use Rattle.base_halves_step.specs.Steps.{BehindLent}
 
 -- a block of n words in front of an array of 64

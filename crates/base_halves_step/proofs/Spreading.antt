@@ -16,7 +16,8 @@ use Rattle.job.specs.Limits.{blockSize}
 use Rattle.parameters.specs.Lent.{lent}
 use Rattle.code.specs.Steps.{LiftInput}
 use Rattle.job.specs.SizeLaws.{size-least}
-use Rattle.base_spread.specs.Steps.{blockOf, blocksOf, SpreadLent, EncodeLent}
+use Rattle.base_block.specs.Blocks.{blockOf}
+use Rattle.base_spread.specs.Steps.{blocksOf, SpreadLent, EncodeLent}
 use Rattle.base_spread.proofs.Spreading.{Reached, length-blocks, block-part}
 use Rattle.base_spread.proofs.Encoding.{first-length, lifting, encoded}
 use Rattle.halves_step.proofs.Places.{part-take, part-front, put-front, put-length, put-part, put-next}

@@ -3,9 +3,8 @@ ghost use mathlib.Core.Path.{_≡_};
 ghost use lib.ListN.{length, take};
 ghost use Rattle.algebra.specs.Tests.{allSame};
 ghost use Rattle.residue.specs.Chosen.{chosen};
-ghost use Rattle.base_spread.specs.Steps.{blockOf};
+ghost use Rattle.base_block.specs.Blocks.{blockOf};
 ghost use Rattle.base_halves_step.specs.Steps.{BaseLent};
-use base_spread::block;
 use residue::Field;
 
 // The base block of m, in the first n words: the longest has 64, of four words at the rate 16.
@@ -14,7 +13,7 @@ pub fn made(n: usize, g: &[u32], m: &[u32], field: Field) -> [u32; 64]
     ensures { λ r. ⌜ (length r ≡ 64) × (take n r ≡ blockOf (chosen field) n (now (g .entry)) (now (m .entry))) ⌝ }
 {
     let mut words = [0u32; 64];
-    block::base_block(n, g, m, &mut words[..n], field);
+    base_block::base_block(n, g, m, &mut words[..n], field);
     words
 }
 

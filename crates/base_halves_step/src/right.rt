@@ -5,9 +5,8 @@ ghost use lib.ListN.{length, take, drop};
 ghost use borrow.Rule.Slice.PartMut.{putMid};
 ghost use Rattle.residue.specs.Chosen.{chosen};
 ghost use Rattle.job.specs.Sizes.{Size};
-ghost use Rattle.base_spread.specs.Steps.{blockOf};
+ghost use Rattle.base_block.specs.Blocks.{blockOf};
 ghost use Rattle.base_halves_step.specs.Steps.{BehindLent, RightLent, RightSpread, CodeLent, RightWritten};
-use base_spread::block;
 use code::lift;
 use halves_step::right;
 use residue::Field;
@@ -41,7 +40,7 @@ fn block_behind(
 {
     let m = base_message(k, from, work);
     let f = to + n;
-    block::base_block(n, g, &m[..k], &mut work[to..f], field);
+    base_block::base_block(n, g, &m[..k], &mut work[to..f], field);
 }
 
 // The base blocks of the q base messages of the right half, from b on.

@@ -8,7 +8,7 @@ use lib.Pow.{pow-mono, pow-pos}
 use lib.Seq.{take-at}
 use Rattle.algebra.specs.Words.{PrimeField}
 use Rattle.basefold.specs.Layout.{finalAt}
-use Rattle.polynomial.specs.Evaluation.{EvaluateInput}
+use Rattle.polynomial.specs.Lent.{EvaluateInput}
 use Rattle.base_rounds.specs.RowOpening.{WriteInput}
 use Rattle.base_rounds.proofs.Target.{message-power}
 

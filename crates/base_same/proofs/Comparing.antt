@@ -35,7 +35,7 @@ use Rattle.job.specs.SizeLaws.{size-least, size-most}
 use Rattle.cofactor.specs.RowLaws.{rows-count}
 use Rattle.base_spread.specs.LentRows.{lentRows, codewordRows, RowCoding}
 use Rattle.base_spread.specs.LentRowLaws.{lift-same, first-within, first-coding}
-use Rattle.base_spread.specs.Steps.{blockOf}
+use Rattle.base_block.specs.Blocks.{blockOf}
 use Rattle.base_halves_step.proofs.Spreading.{turn-within}
 use Rattle.base_same.specs.Steps.{columnWords, BaseLent, MessageLent, ColumnsInput}
 

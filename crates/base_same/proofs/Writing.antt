@@ -16,9 +16,10 @@ use Rattle.algebra.specs.WordLists.{low-take, low-drop, low-words, elements, to
 use Rattle.residue.specs.Elements.{sumProduct}
 use Rattle.cofactor.specs.Rows.{rows}
 use Rattle.cofactor.specs.RowLaws.{row-within}
-use Rattle.base_spread.specs.Steps.{BlockLent, addedScaled, blockOf}
-use Rattle.base_spread.proofs.Adding.{added-at}
-use Rattle.base_spread.proofs.Summing.{Summed, summed-length, summed-turn, summed-end}
+use Rattle.row_sums.specs.Sums.{addedScaled}
+use Rattle.row_sums.proofs.Adding.{added-at}
+use Rattle.base_block.specs.Blocks.{BlockLent, blockOf}
+use Rattle.base_block.proofs.Summing.{Summed, summed-length, summed-turn, summed-end}
 use Rattle.halves_step.proofs.Places.{part-front}
 use Rattle.base_halves_step.proofs.Spreading.{turn-within}
 use Rattle.base_same.specs.Steps.{WordLent, columnWords, BaseLent}

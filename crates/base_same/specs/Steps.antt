@@ -11,7 +11,7 @@ use Rattle.job.specs.Limits.{maxDepth, blockSize}
 use Rattle.undo.specs.Steps.{longestBase}
 use Rattle.cofactor.specs.Rows.{Lent}
 use Rattle.base_spread.specs.LentRows.{RowCoding, codewordRows}
-use Rattle.base_spread.specs.Steps.{blockOf}
+use Rattle.base_block.specs.Blocks.{blockOf}
 
 module _ (𝓕 : PrimeField) where
   open PrimeField 𝓕 using (modulus as P)

@@ -4,7 +4,7 @@ ghost use Prim.Native.Nat.{_*_};
 ghost use lib.ListN.{getD, take};
 ghost use lib.Seq.{paste};
 ghost use Rattle.residue.specs.Chosen.{chosen};
-ghost use Rattle.base_spread.specs.Steps.{blockOf};
+ghost use Rattle.base_block.specs.Blocks.{blockOf};
 ghost use Rattle.base_same.specs.Steps.{WordLent, BaseLent, columnWords};
 use residue::Field;
 use words::entry;

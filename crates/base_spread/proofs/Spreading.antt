@@ -5,11 +5,12 @@ use mathlib.Core.Logic.{⊎-elim}
 use Prim.Native.Nat.{ℕ, zero, suc, _+_, _*_, _-_, _/_, _<_, _≤_}
 use native.Mathlib.Nat.{mul-comm, mul-zero, mul-suc, one-mul, mul-le-mul-left}
 use native.Mathlib.Omega.{arith}
-use lib.ListN.{length, take, drop, length-take, length-drop}
+use lib.ListN.{length, take, drop, length-take, length-drop, length-map}
 use lib.Seq.{take-at, drop-at, drop-drop}
 use Rattle.algebra.specs.Ring.{Ring}
 use Rattle.algebra.specs.Field.{Field}
 use Rattle.algebra.specs.Lists.{row, length-row, map-take, map-drop, length-flatMap}
+use Rattle.algebra.specs.Vector.{Vectors, vectors, multiple-one}
 use Rattle.algebra.specs.Matrix.{times, length-times}
 use Rattle.algebra.specs.Order.{lt-or-ge}
 use Rattle.algebra.specs.Words.{Words, PrimeField}
@@ -18,13 +19,13 @@ use Rattle.foldable.specs.Lift.{spread}
 use Rattle.parameters.specs.Lent.{diagonal}
 use Rattle.blocks.specs.Base.{baseMessages, baseBlocks}
 use Rattle.blocks.specs.Lifted.{spread-blocks}
-use Rattle.code.specs.Steps.{SpreadInput}
 use Rattle.cofactor.specs.Rows.{rows}
 use Rattle.job.specs.SizeLaws.{size-least}
 use Rattle.cofactor.specs.RowLaws.{rows-count, rows-wide}
+use Rattle.base_block.specs.Blocks.{BlockLent, blockOf}
 use Rattle.base_spread.specs.LentRows.{lentRows}
 use Rattle.base_spread.specs.LentRowLaws.{lent-one}
-use Rattle.base_spread.specs.Steps.{BlockLent, blockOf, SpreadLent, blocksOf}
+use Rattle.base_spread.specs.Steps.{SpreadLent, blocksOf, blockBy, blocksBy}
 
 -- list j of several lists of n elements, one behind the other
 chunk : {A B : Type 0} (f : A → List B) (n : ℕ) → ((x : A) → length (f x) ≡ n) → (q : ℕ) (h : ℕ → A) (j : ℕ) → j < q → take n (drop (n * j) (flatMap f (row q h))) ≡ f (h j)
@@ -49,10 +50,12 @@ pub reached-none : (k n q i b : ℕ) → i ≡ 0 → b ≡ 0 → Reached k n q i
 reached-none k n q i b e f = record { turn = 0; most = omega arith; in-message = e ∙ sym (mul-zero k); in-blocks = f ∙ sym (mul-zero n) }
 
 module _ (𝓕 : PrimeField) (k n : ℕ) (g m old : List ℕ) (𝓢 : SpreadLent 𝓕 k n g m old) where
+  infixr 71 _⊛_
   open PrimeField 𝓕 using (field as F, words as W)
   open Field F using (ring as K)
-  open Ring K using (R as Element)
+  open Ring K using (R as Element, 𝟙)
   open Words W using (val as word)
+  open Vectors (vectors K) using (_⊛_)
 
   abbrev q : ℕ
   q = length m / k
@@ -75,9 +78,17 @@ module _ (𝓕 : PrimeField) (k n : ℕ) (g m old : List ℕ) (𝓢 : SpreadLent
   count : length G ≡ k
   count = rows-count 𝓕 k n g (𝓢 .lent .few) long
 
+  pub length-blocks-by : (a : Element) → length (blocksBy 𝓕 a k n g m) ≡ n * q
+  unfolding blocksBy baseBlocks baseMessages
+  length-blocks-by a = length-words 𝓕 _ ∙ length-map (flatMap f _) (K ._*_ a) ∙ length-flatMap f n f-length _ ∙ ap (λ c. c * n) (length-row q _) ∙ mul-comm q n
+
+  -- the blocks as they are
+  blocks-one : blocksBy 𝓕 𝟙 k n g m ≡ blocksOf 𝓕 k n g m
+  unfolding blocksBy blocksOf
+  blocks-one = ap (toWords 𝓕) (multiple-one K _)
+
   pub length-blocks : length (blocksOf 𝓕 k n g m) ≡ n * q
-  unfolding blocksOf baseBlocks baseMessages
-  length-blocks = length-words 𝓕 _ ∙ length-flatMap f n f-length _ ∙ ap (λ c. c * n) (length-row q _) ∙ mul-comm q n
+  length-blocks = ap length (sym blocks-one) ∙ length-blocks-by 𝟙
 
   module _ {i b : ℕ} (𝓡 : Reached k n q i b) where
     abbrev j : ℕ
@@ -127,20 +138,25 @@ module _ (𝓕 : PrimeField) (k n : ℕ) (g m old : List ℕ) (𝓢 : SpreadLent
             size = length-take (b + n - b) (drop b out) ∙ omega (arith, length-drop b out, in-blocks);
           }
 
-      pub block-part : {r : List ℕ} → r ≡ blockOf 𝓕 n g part → r ≡ take (b + n - b) (drop b (blocksOf 𝓕 k n g m))
-      unfolding blockOf blocksOf baseBlocks baseMessages toWords
-      block-part {r} s =
+      pub block-part-by : (a : Element) {r : List ℕ} → r ≡ blockBy 𝓕 a n g part → r ≡ take (b + n - b) (drop b (blocksBy 𝓕 a k n g m))
+      unfolding blockBy blocksBy baseBlocks baseMessages toWords
+      block-part-by a {r} s =
           let e : b + n - b ≡ n = omega arith in
           let message : elements 𝓕 part ≡ take (length G) (drop (length G * j) (elements 𝓕 m)) =
           ap (elements 𝓕) part-is ∙ elements-take 𝓕 k (drop i m) ∙ ap (take k) (elements-drop 𝓕 i m)
           ∙ ap₂ (λ c d. take c (drop d (elements 𝓕 m))) (sym count) (𝓡 .in-message ∙ ap (λ c. c * j) (sym count)) in
           let all = flatMap f (row q (λ t. take (length G) (drop (length G * t) (elements 𝓕 m)))) in
           s
-          ∙ ap₂ (λ v c. toWords 𝓕 (times K n v (rows 𝓕 c n g))) message part-length
-          ∙ sym (ap (toWords 𝓕) (chunk f n f-length q _ j less))
-          ∙ map-take word n (drop (n * j) all)
-          ∙ ap (take n) (map-drop word (n * j) all)
-          ∙ ap₂ (λ c d. take c (drop d (toWords 𝓕 all))) (sym e) (sym (𝓡 .in-blocks))
+          ∙ ap₂ (λ v c. toWords 𝓕 (a ⊛ times K n v (rows 𝓕 c n g))) message part-length
+          ∙ sym (ap (λ v. toWords 𝓕 (a ⊛ v)) (chunk f n f-length q _ j less))
+          ∙ ap (toWords 𝓕) (map-take (K ._*_ a) n (drop (n * j) all) ∙ ap (take n) (map-drop (K ._*_ a) (n * j) all))
+          ∙ map-take word n (drop (n * j) (a ⊛ all))
+          ∙ ap (take n) (map-drop word (n * j) (a ⊛ all))
+          ∙ ap₂ (λ c d. take c (drop d (toWords 𝓕 (a ⊛ all)))) (sym e) (sym (𝓡 .in-blocks))
+
+      pub block-part : {r : List ℕ} → r ≡ blockOf 𝓕 n g part → r ≡ take (b + n - b) (drop b (blocksOf 𝓕 k n g m))
+      unfolding blockOf blockBy
+      block-part s = block-part-by 𝟙 (s ∙ ap (toWords 𝓕) (sym (multiple-one K _))) ∙ ap (λ w. take (b + n - b) (drop b w)) blocks-one
 
   -- one word a base message: each word times the row
   module _ (e : k ≡ 1) where
@@ -149,9 +165,6 @@ module _ (𝓕 : PrimeField) (k n : ℕ) (g m old : List ℕ) (𝓢 : SpreadLent
 
     words-are : length m ≡ q
     words-are = 𝓢 .whole ∙ ap (λ c. c * q) e ∙ one-mul q
-
-    pub one-input : SpreadInput 𝓕 m g old
-    one-input = record { message = 𝓢 .low; row = 𝓢 .lent .low; size = 𝓢 .size ∙ mul-comm n q ∙ ap₂ _*_ (sym words-are) (sym row-is) }
 
     pub one-blocks : toWords 𝓕 (spread F (elements 𝓕 g) (elements 𝓕 m)) ≡ blocksOf 𝓕 k n g m
     unfolding blocksOf

@@ -5,12 +5,12 @@ ghost use Rattle.base_spread.specs.LentRows.{codewordRows};
 ghost use Rattle.base_spread.specs.Steps.{EncodeLent};
 use code::lift;
 use residue::Field;
+use residue::Residue;
 
-pub mod block;
 pub mod spread;
 
 // Above the base blocks the code is that of any one row of n words: the first is lent for its length.
-// One row, the most frequent case, has 16 words at most, and is encoded in loose words from the start.
+// One row, the most frequent case, has 16 words at most, and takes what the levels divide by into the row; else the messages' words take it.
 pub fn encode_rows(
     depth: u32,
     k: usize,
@@ -31,6 +31,8 @@ pub fn encode_rows(
             return;
         }
     }
-    spread::spread_rows(k, n, g, m, out, field);
-    lift::lift(depth, &g[..n], t, t2, out, field);
+    let f = Residue::scale_power(depth, field);
+    spread::spread_blocks(k, n, g, m, out, f, field);
+    lift::lift_loose(depth, &g[..n], t, t2, out, field);
+    lift::settle(out, field);
 }

@@ -16,8 +16,9 @@ use Rattle.job.specs.Limits.{maxMessage}
 use Rattle.inversion.specs.Inversion.{gap, gapInverses}
 use Rattle.inversion.specs.InversionLaws.{length-rows, getD-rows}
 use Rattle.inversion.specs.Strides.{stride-next, stride-within}
-use Rattle.base_undo.specs.Steps.{columnWord, undoneWords, inverseWord, InvertedTo, DiagonalsLent, RowsInput, ColumnsUndone}
-use Rattle.base_undo.proofs.Inverting.{put-within, put-before, put-behind}
+use Rattle.base_inverses.specs.Inverses.{inverseWord, InvertedTo, DiagonalsLent}
+use Rattle.base_undo.specs.Steps.{columnWord, undoneWords, RowsInput, ColumnsUndone}
+use Rattle.base_inverses.proofs.Inverting.{put-within, put-before, put-behind}
 
 module _ (𝓕 : PrimeField) where
   -- before turn a: the columns below a stand undone

@@ -2,7 +2,6 @@
 --     Preparing    a column and the inverses behind it
 --     Undoing      the column undone
 --     Slicing      slices that begin at a column
---     Inverting    the inverses of the columns, part by part
 --     Columns      the columns, one behind the other
 --     Drawing      words that stand apart, in front
 --     Grouping     the groups, one behind the other
@@ -10,7 +9,6 @@
 pub mod Preparing
 pub mod Undoing
 pub mod Slicing
-pub mod Inverting
 pub mod Columns
 pub mod Drawing
 pub mod Grouping

@@ -9,8 +9,7 @@ use lib.Pow.{pow-pos}
 use lib.Seq.{take-at}
 use Rattle.algebra.specs.Words.{PrimeField}
 use Rattle.foldable.specs.Every.{every}
-use Rattle.job.specs.LimitLaws.{power-most}
-use Rattle.job.specs.Limits.{maxMessage, maxBlock}
+use Rattle.job.specs.Limits.{maxBlock}
 use Rattle.inversion.specs.Inversion.{gapInverses, Diagonals}
 use Rattle.base_undo.specs.Steps.{ColumnInput}
 
@@ -24,9 +23,6 @@ module _ (𝓕 : PrimeField) where
   module _ (d n : ℕ) (t t' b work : List ℕ) (𝓓 : ColumnInput 𝓕 d n t t' b (length work)) (q : ℕ) (en : q ≡ 2 ^ d) where
     pub some : 1 ≤ q
     some = omega (arith, pow-pos d)
-
-    pub few : q ≤ maxMessage
-    few = omega (arith, power-most d (𝓓 .depth))
 
     pub room : q + q ≤ length work
     room = omega (arith, 𝓓 .work)

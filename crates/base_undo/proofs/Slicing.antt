@@ -52,12 +52,6 @@ module _ (𝓕 : PrimeField) where
     abbrev block : List ℕ
     block = take (length w - b) (drop b w)
 
-    pub first-within : s ≤ length t
-    first-within = omega arith
-
-    pub second-within : s ≤ length t'
-    second-within = omega (arith, 𝓑 .first, 𝓑 .second)
-
     pub block-within : b ≤ length w
     block-within = omega (arith, 𝓑 .sized, mul-le-mul-left {m = 1} {n = 2 ^ d} n (pow-pos d), mul-one n)
 

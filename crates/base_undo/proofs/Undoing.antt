@@ -1,6 +1,6 @@
 -- The column undone. Assumes nothing.
 use mathlib.Core.Path.{_≡_, refl, sym, ap, ap₂, _∙_}
-use mathlib.Core.List.{List, [], _∷_, _++_}
+use mathlib.Core.List.{List, _++_}
 use Prim.Native.Nat.{ℕ, _+_, _*_, _-_, _^_, _<_}
 use native.Mathlib.Nat.{zero-add, one-mul, mul-comm, two-pow-succ}
 use native.Mathlib.Omega.{arith}
@@ -10,7 +10,7 @@ use lib.Seq.{take-at, take-append-le, getD-append-add}
 use Rattle.algebra.specs.Ring.{Ring}
 use Rattle.algebra.specs.Field.{Field}
 use Rattle.algebra.specs.Lists.{length-row, getD-row, differ-of}
-use Rattle.algebra.specs.Vector.{Vectors, vectors}
+use Rattle.algebra.specs.Vector.{Vectors, vectors, multiple-one}
 use Rattle.algebra.specs.Words.{Words, PrimeField}
 use Rattle.algebra.specs.WordLists.{Low, low-words, low-append, elements, toWords, length-elements, getD-elements}
 use Rattle.foldable.specs.Code.{Code, Legal}
@@ -33,10 +33,6 @@ module _ (𝓕 : PrimeField) where
   open Ring K using (R as Element, 𝟘, 𝟙, _-_ as _⊟_)
   open Words W using (el, val as word)
   open Vectors (vectors K) using (_⊛_)
-
-  one-times : (v : List Element) → 𝟙 ⊛ v ≡ v
-  one-times [] = refl
-  one-times (x ∷ v) = ap₂ _∷_ (K .mul-comm 𝟙 x ∙ K .mul-one x) (one-times v)
 
   -- one
   abbrev pub unit : Residue
@@ -118,5 +114,5 @@ module _ (𝓕 : PrimeField) where
         first-undone u rest l 𝓤 =
             take-append-le (2 ^ d) u rest (omega (arith, long)) ∙ 𝓤 .column Column (rw en column-code)
             ∙ ap₂ (λ (f : List Element → List Element) v. toWords 𝓕 (undo F Column f d (elements 𝓕 v)))
-            (λ i v. (ap (λ y. y ⊛ v) (W .el-one) ∙ one-times v) i)
+            (λ i v. (ap (λ y. y ⊛ v) (W .el-one) ∙ multiple-one K v) i)
             (ap (take (2 ^ d)) e ∙ take-at column inverses (2 ^ d) (length-row (2 ^ d) _))

@@ -5,7 +5,6 @@ ghost use lib.ListN.{length, take, drop};
 ghost use Rattle.residue.specs.Chosen.{chosen};
 ghost use Rattle.inversion.specs.Inversion.{gapInverses};
 ghost use Rattle.base_undo.specs.Steps.{ColumnInput, BlockInput, RowsInput, undoneWords, ColumnsUndone};
-use crate::inverses;
 use residue::Field;
 use residue::Residue;
 use undo::column;
@@ -70,7 +69,7 @@ pub fn undo_columns(
     ensures { λ _. ⌜ ColumnsUndone (chosen field) depth k n (now (t .entry)) (now (t2 .entry)) (now (block .entry)) (now (work .exit)) ⌝ }
 {
     let q = job::message_len(depth);
-    inverses::invert_columns(k, n, q, t, t2, work, field);
+    base_inverses::invert_columns(k, n, q, t, t2, work, field);
     let mut s = (k - 1) * q;
     let mut b = 0;
     while b < k {

@@ -11,7 +11,6 @@ use residue::Field;
 
 mod column;
 mod groups;
-mod inverses;
 
 // The message, in front of work: the first k columns undone, and of the words across them the groups of k times the inverse matrix in m. The base rows
 // themselves are not asked for.

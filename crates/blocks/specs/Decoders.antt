@@ -9,9 +9,9 @@ use lib.ListN.{length, take, length-take, length-map}
 use Rattle.algebra.specs.Ring.{Ring}
 use Rattle.algebra.specs.Field.{Field}
 use Rattle.algebra.specs.Matrix.{Wide, wide-map, times, length-times}
-use Rattle.foldable.specs.Code.{Code, generator, encode, Codeword, Legal}
+use Rattle.foldable.specs.Code.{Code, generator, encode, Legal}
 use Rattle.foldable.specs.Unique.{Unique}
-use Rattle.foldable.specs.Decode.{Decoder, unique-decoded, codeword?}
+use Rattle.foldable.specs.Decode.{Decoder, unique-decoded}
 use Rattle.determinant.specs.Inverse.{Square, Inverse, Singular}
 use Rattle.determinant.specs.Determinant.{det}
 use Rattle.determinant.specs.Products.{solved}
@@ -51,7 +51,3 @@ module _ (F : Field) (C : Code F) (k : ℕ) (count : length (C .G₀) ≡ k) (fe
     -- so a codeword of any level has one message
     pub unique-inverse : Unique F C d
     unique-inverse = unique-decoded F C k _ (inverse-decoder (𝓛 .base) M 𝓘) d 𝓛
-
-    -- and it is decided whether a block is a codeword
-    pub codeword-inverse? : (w : List R) → Dec (Codeword F C d w)
-    codeword-inverse? = codeword? F C k _ (inverse-decoder (𝓛 .base) M 𝓘) d 𝓛

@@ -1,6 +1,5 @@
-// Clearances: reading a residue as one, and slices of them turned into residues and back.
+// Clearances: slices of them turned into residues and back.
 mod clearance;
-pub mod reading;
 pub mod slices;
 
 // The largest distance, in micrometres, and the largest overlap: in the first field, and in the second.

@@ -23,8 +23,7 @@ use Rattle.job.specs.LimitLaws.{power-most}
 use Rattle.parameters.specs.Lent.{diagonal, Coding}
 use Rattle.parameters.specs.LentLaws.{coding-below, getD-diagonal, level-end}
 use Rattle.undo.specs.Steps.{longestBase}
-use Rattle.code.specs.Steps.{crossed}
-use Rattle.columns.specs.Steps.{lentColumn, CrossLent, ColumnHalfIs, ColumnLent}
+use Rattle.columns.specs.Steps.{lentColumn, crossed, CrossLent, ColumnHalfIs, ColumnLent}
 
 pub column-half : (d j c r : ℕ) → 0 < d → d ≤ maxDepth → j < c → c ≤ longestBase → r ≡ 2 ^ (d - 1) → (1 ≤ r) × (c * (r - 1) ≤ longestBase * maxMessage) × ColumnHalfIs d j c r (j + c * (r - 1)) (d - 1)
 column-half d j c r lo hi column wide e =

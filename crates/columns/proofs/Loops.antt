@@ -14,9 +14,8 @@ use Rattle.algebra.specs.Words.{Words, PrimeField}
 use Rattle.algebra.specs.WordLists.{Low}
 use Rattle.foldable.specs.Every.{every}
 use Rattle.inversion.specs.Strides.{stride-next, stride-within}
-use Rattle.code.specs.Steps.{CrossInput, crossed}
-use Rattle.code.proofs.Crossing.{CrossedTo, cross-none, cross-length, left-low, right-low, cross-turn, cross-end}
-use Rattle.columns.specs.Steps.{CrossLent}
+use Rattle.columns.specs.Steps.{CrossInput, crossed, CrossLent}
+use Rattle.columns.proofs.Crossing.{CrossedTo, cross-none, cross-length, left-low, right-low, cross-turn, cross-end}
 
 pub next-place : (a i c p : ℕ) → p ≡ a + i * c → p + c ≡ a + (i + 1) * c
 next-place a i c p e = omega (arith, stride-next i c)

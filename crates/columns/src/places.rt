@@ -3,11 +3,10 @@ ghost use mathlib.Core.Path.{_≡_};
 ghost use Prim.Native.Nat.{_*_, _<_, _≤_};
 ghost use lib.ListN.{length};
 ghost use Rattle.algebra.specs.Tests.{allSame};
-ghost use Rattle.code.specs.Steps.{crossed};
 ghost use Rattle.foldable.specs.Every.{every};
 ghost use Rattle.residue.specs.Chosen.{chosen};
 ghost use Rattle.undo.specs.Steps.{longestBase};
-ghost use Rattle.columns.specs.Steps.{CrossLent};
+ghost use Rattle.columns.specs.Steps.{crossed, CrossLent};
 use residue::Field;
 use words::entry;
 

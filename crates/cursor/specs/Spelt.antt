@@ -1,32 +1,30 @@
--- Numbers are read one after another exactly where their numerals stand one after another. Assumes nothing.
+-- Numbers are read one after another exactly where their numerals stand one after another; what is written is read back, and no other list has its
+-- bytes. Assumes nothing.
 use mathlib.Core.Path.{_≡_, refl, sym, ap, ap₂, _∙_}
 use mathlib.Core.Logic.{_↔_}
 use mathlib.Core.Bool.{true}
-use mathlib.Core.List.{List, [], _∷_, _++_, flatMap, append-assoc}
-use Prim.Native.Nat.{ℕ, zero, suc, _+_, _-_, _<_, _≤_}
+use mathlib.Core.List.{List, [], _∷_, _++_, flatMap, append-assoc, append-nil}
+use Prim.Native.Nat.{ℕ, zero, suc, _+_, _*_, _-_, _<_, _≤_}
 use native.Mathlib.Omega.{arith}
 use lib.Dec.{ltb}
 use lib.ListN.{length, getD, take, drop, take-append-drop, length-append, length-take, length-drop}
-use lib.Seq.{drop-drop, drop-append-seam}
+use lib.Seq.{drop-at, drop-drop, drop-length, drop-append-seam}
 use borrow.Author.Tests.{ltb-true}
 use Rattle.algebra.specs.Lists.{put}
 use Rattle.algebra.specs.Tests.{all, and-both}
 use Rattle.job.specs.Outcome.{Numbers, Outcome, done}
-use Rattle.numeral.specs.Numeral.{largest, numberAt, bytes}
+use Rattle.numeral.specs.Numeral.{longest, largest, numberAt, bytes}
 use Rattle.numeral.specs.Laws.{read-exactly}
-use Rattle.numeral.specs.Unique.{one-numeral, read-back}
+use Rattle.numeral.specs.Unique.{few-bytes, one-numeral, read-back}
 use Rattle.cursor.specs.Walk.{_⟫_, under, judged, walk, entryOf, entry, listed}
+use Rattle.cursor.specs.Numerals.{allBytes, Part, ReadBack}
 use Rattle.cursor.specs.Laws.{same-place, judged-low, begins, walk-below}
 
--- numerals one after another
-abbrev pub allBytes : List ℕ → List ℕ
-allBytes = flatMap bytes
-
--- ys is the part of a file from a place to before e
-pub record Part (ys bs : List ℕ) (at e : ℕ) : Type 0 where
-  pub ends : at + length ys ≡ e
-  pub within : e ≤ length bs
-  pub here : drop at bs ≡ ys ++ drop e bs
+-- each number has at most five bytes
+pub few-all : (xs : List ℕ) → length (allBytes xs) ≤ longest * length xs
+unfolding flatMap
+few-all [] = omega arith
+few-all (x ∷ xs) = omega (arith, length-append (bytes x) (allBytes xs), few-bytes longest x, few-all xs)
 
 -- two parts one after another are one
 join : (xs ys bs : List ℕ) (at m e : ℕ) → Part xs bs at m → Part ys bs m e → Part (xs ++ ys) bs at e
@@ -72,6 +70,17 @@ number-back bs at n next small 𝓟 =
     ap (λ k. take at bs ++ (bytes n ++ drop k bs)) p ∙ ap (λ l. take at bs ++ l) (sym (𝓟 .here)) ∙ take-append-drop at bs in
     ap (λ l. numberAt l at) (sym same) ∙ read-back n at bs small (omega arith) ∙ ap (λ k. done (n, k)) p
 
+-- what is written is a part, and the bytes alone are one
+put-part : (xs o : List ℕ) (at : ℕ) → at ≤ length o → Part xs (put at xs o) at (at + length xs)
+put-part xs o at h =
+    let rest = drop (at + length xs) o in
+    let begin : drop at (put at xs o) ≡ xs ++ rest = drop-at (take at o) (xs ++ rest) at (length-take at o ∙ omega arith) in
+    let end : drop (at + length xs) (put at xs o) ≡ rest = sym (drop-drop (length xs) at (put at xs o)) ∙ ap (drop (length xs)) begin ∙ drop-append-seam xs rest in
+    record { ends = refl; within = simp (length-append, length-take, length-drop) (omega arith); here = begin ∙ ap (λ l. xs ++ l) (sym end) }
+
+whole : (l : List ℕ) → Part l l 0 (length l)
+whole l = record { ends = omega arith; within = omega arith; here = sym (ap (λ r. l ++ r) (drop-length l) ∙ append-nil l) }
+
 -- WHAT IS READ IS SPELT BY ITS NUMERALS
 pub walk-spelt : (bs : List ℕ) → ((i : ℕ) → getD bs i 0 < 256) → (J : ℕ → ℕ → Outcome (Unit {0})) (i k at e : ℕ) → at ≤ length bs → walk J i k bs at ≡ done e
     → Part (allBytes (listed k bs at)) bs at e
@@ -86,11 +95,7 @@ walk-spelt bs low J i (suc k) at e h w =
     rw is (join (bytes (p .0)) (allBytes (listed k bs (p .1))) bs at (p .1) e 𝓟 𝓠)
 
 -- AND WHAT IS SPELT IS READ
-pub record ReadBack (limit : ℕ) (fault : ℕ → Numbers) (i : ℕ) (xs bs : List ℕ) (at e : ℕ) : Type 0 where
-  pub reads : walk (under limit fault) i (length xs) bs at ≡ done e
-  pub list : listed (length xs) bs at ≡ xs
-
-pub spelt-walk : (limit : ℕ) (fault : ℕ → Numbers) → limit ≤ largest → (i : ℕ) (xs bs : List ℕ) (at e : ℕ) → all (λ v. ltb v limit) xs ≡ true → Part (allBytes xs) bs at e
+pub spelt-walk : (limit : ℕ) (fault : ℕ → Numbers) → limit ≤ largest + 1 → (i : ℕ) (xs bs : List ℕ) (at e : ℕ) → all (λ v. ltb v limit) xs ≡ true → Part (allBytes xs) bs at e
     → ReadBack limit fault i xs bs at e
 unfolding walk listed flatMap all
 spelt-walk limit fault few i [] bs at e low 𝓟 = let p = 𝓟 .ends in let same : at ≡ e = omega arith in record { reads = ap done same; list = refl }
@@ -108,7 +113,7 @@ spelt-walk limit fault few i (x ∷ xs) bs at e low 𝓟 =
     }
 
 -- NUMBERS BELOW A LIMIT ARE READ EXACTLY WHERE THEIR NUMERALS STAND
-pub walk-exactly : (limit : ℕ) (fault : ℕ → Numbers) → limit ≤ largest → (bs : List ℕ) → ((i : ℕ) → getD bs i 0 < 256) → (i : ℕ) (xs : List ℕ) (at e : ℕ) → at ≤ length bs
+pub walk-exactly : (limit : ℕ) (fault : ℕ → Numbers) → limit ≤ largest + 1 → (bs : List ℕ) → ((i : ℕ) → getD bs i 0 < 256) → (i : ℕ) (xs : List ℕ) (at e : ℕ) → at ≤ length bs
     → ReadBack limit fault i xs bs at e ↔ ((all (λ v. ltb v limit) xs ≡ true) × Part (allBytes xs) bs at e)
 walk-exactly limit fault few bs low i xs at e h = (
   λ 𝓡. (
@@ -117,3 +122,41 @@ walk-exactly limit fault few bs low i xs at e h = (
   ),
   λ l. spelt-walk limit fault few i xs bs at e (l .0) (l .1),
 )
+
+-- a numeral before other bytes: there are some, its number is read first, and the others follow
+module _ (x : ℕ) (r : List ℕ) (small : x ≤ largest) where
+  first-entry : entry (bytes x ++ r) 0 ≡ (x, 0 + length (bytes x))
+  first-entry = ap (entryOf 0) (number-back (bytes x ++ r) 0 x _ small (front (bytes x) r (bytes x ++ r) 0 _ (whole (bytes x ++ r))))
+
+  some-bytes : 0 < length (bytes x ++ r)
+  some-bytes =
+      let some = read-exactly (put 0 (bytes x) []) 0 x _ .0 (read-back x 0 [] small (omega arith)) .some in
+      omega (arith, length-append (bytes x) r)
+
+one-first : (x y : ℕ) (r s : List ℕ) → x ≤ largest → y ≤ largest → bytes x ++ r ≡ bytes y ++ s → (x ≡ y) × (r ≡ s)
+one-first x y r s p q e =
+    let is : x ≡ y = ap (λ z. z .0) (sym (first-entry x r p) ∙ ap (λ l. entry l 0) e ∙ first-entry y s q) in
+    let behind : drop (length (bytes x)) (bytes y ++ s) ≡ s = ap (λ z. drop (length (bytes z)) (bytes y ++ s)) is ∙ drop-append-seam (bytes y) s in
+    (is, sym (drop-append-seam (bytes x) r) ∙ ap (drop (length (bytes x))) e ∙ behind)
+
+module _ (limit : ℕ) (few : limit ≤ largest + 1) where
+  -- WHAT IS WRITTEN IS READ BACK
+  pub written-back : (fault : ℕ → Numbers) (i : ℕ) (ws o : List ℕ) (at : ℕ) → all (λ v. ltb v limit) ws ≡ true → at ≤ length o
+      → ReadBack limit fault i ws (put at (allBytes ws) o) at (at + length (allBytes ws))
+  written-back fault i ws o at low h = spelt-walk limit fault few i ws (put at (allBytes ws) o) at (at + length (allBytes ws)) low (put-part (allBytes ws) o at h)
+
+  lows : (x : ℕ) (xs : List ℕ) → all (λ v. ltb v limit) (x ∷ xs) ≡ true → (x ≤ largest) × (all (λ v. ltb v limit) xs ≡ true)
+  unfolding all
+  lows x xs p = let a = and-both (ltb x limit) (all (λ v. ltb v limit) xs) p in let l = ltb-true x limit (a .0) in (omega arith, a .1)
+
+  -- AND NO OTHER LIST HAS ITS BYTES
+  pub equal-bytes : (xs ys : List ℕ) → all (λ v. ltb v limit) xs ≡ true → all (λ v. ltb v limit) ys ≡ true → allBytes xs ≡ allBytes ys → xs ≡ ys
+  unfolding flatMap
+  equal-bytes [] [] p q e = refl
+  equal-bytes [] (y ∷ ys) p q e = absurd (omega (arith, some-bytes y (allBytes ys) (lows y ys q .0), ap length e))
+  equal-bytes (x ∷ xs) [] p q e = absurd (omega (arith, some-bytes x (allBytes xs) (lows x xs p .0), ap length e))
+  equal-bytes (x ∷ xs) (y ∷ ys) p q e =
+      let a = lows x xs p in
+      let b = lows y ys q in
+      let s = one-first x y (allBytes xs) (allBytes ys) (a .0) (b .0) e in
+      ap₂ _∷_ (s .0) (equal-bytes xs ys (a .1) (b .1) (s .1))

@@ -8,7 +8,7 @@ ghost use Rattle.cursor.specs.Shown.{told};
 use numeral::read::Read;
 use numeral::read::read_number;
 
-pub mod scan;
+pub mod write;
 
 // The place after what was read, or the first fault.
 pub enum Skimmed {

@@ -44,7 +44,8 @@ use Rattle.base_spread.specs.LentRows.{lentRows, codewordRows, RowCoding}
 use Rattle.base_spread.specs.LentRowLaws.{row-coding}
 use Rattle.base_undo.specs.Steps.{RowsInput}
 use Rattle.base_decode.specs.Decoding.{DecodeRows}
-use Rattle.decode.specs.Decoding.{decodeLengths, judgeDecoding, Settled, message, none, Decoded, refusal, settled}
+use Rattle.base_settle.specs.Settling.{Settled, message, none}
+use Rattle.decode.specs.Decoding.{decodeLengths, judgeDecoding, Decoded, refusal, settled}
 
 -- what the test of the lengths says
 pub record Lengths (d c k g t t' b m s : ℕ) : Type 0 where

@@ -7,11 +7,11 @@ use Prim.Native.Nat.{ℕ}
 use lib.ListN.{length-map}
 use Rattle.algebra.specs.Ring.{Ring, zero-mul, mul-zero}
 use Rattle.algebra.specs.Field.{Field}
-use Rattle.algebra.specs.Vector.{Vectors, vectors, multiple-multiple}
+use Rattle.algebra.specs.Vector.{Vectors, vectors, multiple-one, multiple-multiple}
 use Rattle.algebra.specs.Matrix.{wide-map}
 use Rattle.determinant.specs.Inverse.{Square, product, identity, Inverse, Singular}
 use Rattle.determinant.specs.Determinant.{det, adjugate, inverse}
-use Rattle.determinant.specs.Products.{one-multiple, product-scaled, same}
+use Rattle.determinant.specs.Products.{product-scaled, same}
 use Rattle.determinant.specs.Multiplicative.{det-product, det-identity}
 use Rattle.determinant.specs.Adjugate.{product-adjugate, square-adjugate}
 
@@ -40,7 +40,7 @@ module _ (F : Field) (k : ℕ) where
 
   divided : (c d : R) (A : List (List R)) → c * d ≡ 𝟙 → map (_⊛_ c) (map (_⊛_ d) A) ≡ A
   divided c d [] e = refl
-  divided c d (v ∷ A) e = ap₂ _∷_ (sym (multiple-multiple K c d v) ∙ ap (λ x. x ⊛ v) e ∙ one-multiple K v) (divided c d A e)
+  divided c d (v ∷ A) e = ap₂ _∷_ (sym (multiple-multiple K c d v) ∙ ap (λ x. x ⊛ v) e ∙ multiple-one K v) (divided c d A e)
 
   product-inverse : (A : List (List R)) → Square k A → (det K k A ≡ 𝟘 → ⊥) → product K k A (inverse F k A) ≡ identity K k
   unfolding inverse

@@ -8,10 +8,10 @@ use native.Mathlib.Decide.{ℕ-discrete}
 use native.Mathlib.Omega.{arith}
 use lib.ListN.{length, length-map, length-replicate}
 use borrow.Author.Tests.{eq-eqb, ne-eqb}
-use Rattle.algebra.specs.Ring.{Ring, zero-mul, mul-zero, one-mul}
+use Rattle.algebra.specs.Ring.{Ring, zero-mul, mul-zero}
 use Rattle.algebra.specs.Flags.{cond-true, cond-false}
 use Rattle.algebra.specs.Lists.{row, length-row, row-ext, map-row, zip}
-use Rattle.algebra.specs.Vector.{Vectors, vectors, multiple-sum, multiple-multiple, multiple-zeros, zeros-sum, sum-zeros}
+use Rattle.algebra.specs.Vector.{Vectors, vectors, multiple-one, multiple-sum, multiple-multiple, multiple-zeros, zeros-sum, sum-zeros}
 use Rattle.algebra.specs.Matrix.{Wide, wide-map, times, length-times, times-sum, times-multiple}
 use Rattle.determinant.specs.Inverse.{Square, product, diagonal, identity, Inverse}
 use Rattle.determinant.specs.Places.{row-replicate, wide-row}
@@ -25,10 +25,6 @@ module _ (K : Ring) where
   zero-multiple : (v : List R) → 𝟘 ⊛ v ≡ zeros (length v)
   zero-multiple [] = refl
   zero-multiple (x ∷ v) = ap₂ _∷_ (zero-mul K x) (zero-multiple v)
-
-  pub one-multiple : (v : List R) → 𝟙 ⊛ v ≡ v
-  one-multiple [] = refl
-  one-multiple (x ∷ v) = ap₂ _∷_ (one-mul K x) (one-multiple v)
 
   pub times-zeros : (n k : ℕ) (M : List (List R)) → Wide n M → times K n (zeros k) M ≡ zeros n
   unfolding times
@@ -120,7 +116,7 @@ module _ (K : Ring) where
   identity-product n (suc k) (row ∷ M) e w =
       ap (λ I. product K n I (row ∷ M)) (identity-suc k)
       ∙ ap₂ _∷_
-      (ap₂ _⊕_ (one-multiple row) (times-zeros n k M (w .1)) ∙ sum-zeros K n row (w .0))
+      (ap₂ _⊕_ (multiple-one K row) (times-zeros n k M (w .1)) ∙ sum-zeros K n row (w .0))
       (product-shift n (identity K k) row M (w .0) (w .1) ∙ identity-product n k M (suc-inj e) (w .1))
 
   -- (A B) M = A (B M)

@@ -5,15 +5,15 @@ use mathlib.Core.List.{List, [], _∷_}
 use Prim.Native.Nat.{ℕ, suc, _+_, _*_, _-_, _^_, _<_, _≤_}
 use native.Mathlib.Nat.{mul-one}
 use native.Mathlib.Omega.{arith}
-use lib.Dec.{leb, ltb, eqb}
+use lib.Dec.{ltb, eqb}
 use lib.ListN.{length}
-use borrow.Author.Tests.{leb-true, eqb-true}
+use borrow.Author.Tests.{eqb-true}
 use Rattle.algebra.specs.Words.{PrimeField}
 use Rattle.algebra.specs.Tests.{all, and-both}
 use Rattle.algebra.specs.WordLists.{Low}
 use Rattle.foldable.specs.Encode.{double}
 use Rattle.job.specs.Limits.{rateOk, blockSize}
-use Rattle.job.specs.Sizes.{k0Ok, depthOk, inLimits, baseSize}
+use Rattle.job.specs.Sizes.{k0Ok, baseSize}
 use Rattle.job.specs.SizeLaws.{within, block-most}
 use Rattle.job.specs.Outcome.{Numbers, unplaced, Outcome, refused, done, require, unless, _⨾_}
 use Rattle.job.specs.OutcomeLaws.{stop-within, pass, pass-demand, after-refused, chain, require-done, demand-done, demand-held, held, both}
@@ -22,20 +22,9 @@ use Rattle.words.specs.ScanLaws.{all-below, all-differ}
 use Rattle.places.specs.Inputs.{inOrder, judgeWords, noEqual, Short}
 use Rattle.places.specs.FlagLaws.{short-without-row, words-flagged, equal-flagged}
 use Rattle.inversion.specs.Inversion.{Diagonals}
-use Rattle.fold.specs.Job.{levelOk, foldLimits, lengthsOk, foldInputs, judgeFolding}
-
--- a level that can be folded is a depth of at least 1
-pub level-depth : (k level : ℕ) → levelOk k level ≡ true → (1 ≤ level) × (depthOk k level ≡ true)
-unfolding levelOk
-level-depth k level e =
-    let b = and-both (leb 1 level) (depthOk k level) e in
-    (leb-true 1 level (b .0), b .1)
-
-pub legal : (level rate k : ℕ) → foldLimits level rate k ≡ true → (1 ≤ level) × (inLimits level rate k ≡ true)
-legal level rate k e =
-    let b = and-both (levelOk k level) (rateOk rate && k0Ok k) e in
-    let l = level-depth k level (b .0) in
-    (l .0, ap₂ _&&_ (l .1) (b .1))
+use Rattle.fold_limits.specs.Limits.{levelOk, foldLimits, lengthsOk}
+use Rattle.fold_limits.proofs.Levels.{level-depth, legal}
+use Rattle.fold.specs.Job.{foldInputs, judgeFolding}
 
 pub record Lengths (n m t t2 block out : ℕ) : Type 0 where
   pub first : t ≡ n

@@ -1,34 +1,17 @@
 -- The job of folding a block by one level: its refusals, its answer and what it writes, for every input. Definitions only. Assumes nothing.
 use mathlib.Core.Path.{_≡_}
-use mathlib.Core.Bool.{Bool, _&&_}
 use mathlib.Core.List.{List, [], _∷_}
 use Prim.Native.Nat.{ℕ, _-_}
-use lib.Dec.{leb, eqb}
 use lib.ListN.{length}
 use Rattle.algebra.specs.Words.{PrimeField}
 use Rattle.job.specs.Limits.{rateOk, blockSize}
-use Rattle.job.specs.Sizes.{k0Ok, depthOk, baseSize}
+use Rattle.job.specs.Sizes.{k0Ok, baseSize}
 use Rattle.job.specs.Outcome.{Outcome, require, _⨾_, kept, outcome}
 use Rattle.job.specs.declared.Answer.{Answer}
 use Rattle.job.specs.declared.Input.the-variants.{T, T2, Block, R}
 use Rattle.places.specs.Inputs.{Lent, judgeWords, noEqual}
 use Rattle.lines.specs.Folds.{foldWords}
-
--- the upper level: at least 1, and within the limit of a depth
-unfoldable pub levelOk : ℕ → ℕ → Bool
-levelOk k level = leb 1 level && depthOk k level
-
--- level, rate and the words of a base message, as one test
-abbrev pub foldLimits : ℕ → ℕ → ℕ → Bool
-foldLimits level rate k = levelOk k level && (rateOk rate && k0Ok k)
-
--- the numbers of words lent, with base blocks of n words: n_i for T_i, for T'_i and for the result, n_(i+1) for the block
-unfoldable pub lengthsOk : ℕ → ℕ → ℕ → ℕ → ℕ → ℕ → Bool
-lengthsOk level n t t2 block out =
-    eqb t (blockSize n (level - 1))
-    && (eqb t2 (blockSize n (level - 1))
-    && (eqb block (blockSize n level)
-    && eqb out (blockSize n (level - 1))))
+use Rattle.fold_limits.specs.Limits.{levelOk, lengthsOk}
 
 -- what is lent, in its order: a challenge counts as r, of one word
 abbrev pub foldInputs : List ℕ → List ℕ → List ℕ → ℕ → List Lent

@@ -3,65 +3,20 @@ ghost use mathlib.Core.Path.{_≡_};
 ghost use mathlib.Core.Bool.{_&&_};
 ghost use mathlib.Core.List.{[], _∷_};
 ghost use lib.Dec.{ltb};
-ghost use Rattle.job.specs.Outcome.{outcome, require, unless, _⨾_};
-ghost use Rattle.job.specs.Limits.{rateOk};
-ghost use Rattle.job.specs.Sizes.{k0Ok, baseSize};
+ghost use Rattle.job.specs.Outcome.{outcome, unless, _⨾_};
 ghost use Rattle.residue.specs.Elements.{P};
 ghost use Rattle.residue.specs.Chosen.{chosen};
 ghost use Rattle.words.specs.Scans.{allBelow, allDiffer};
 ghost use Rattle.places.specs.Inputs.{inOrder, judgeWords, noEqual, Short};
-ghost use Rattle.fold.specs.Job.{levelOk, foldLimits, lengthsOk, judgeFolding, Folded};
+ghost use Rattle.fold.specs.Job.{judgeFolding, Folded};
 use job::Answer;
 use job::Parameters;
 use job::Refusal;
-use job::sizes;
 use places::inputs;
 use residue::Field;
 use residue::Residue;
 use words::scan;
 use words::scan::PairScan;
-
-// A block of level 0 cannot be folded.
-fn level_ok(p: Parameters) -> bool
-    ensures { λ r. ⌜ r ≡ levelOk (p .k0) (p .depth) ⌝ }
-{
-    if p.depth < 1 {
-        return false;
-    }
-    sizes::depth_ok(p)
-}
-
-fn limits_ok(p: Parameters) -> bool
-    ensures { λ r. ⌜ r ≡ foldLimits (p .depth) (p .rate) (p .k0) ⌝ }
-{
-    if !level_ok(p) {
-        return false;
-    }
-    if !job::rate_ok(p.rate) {
-        return false;
-    }
-    sizes::k0_ok(p)
-}
-
-// Whether the record is legal and the slices have the lengths that it gives.
-fn lengths_ok(p: Parameters, t: usize, t2: usize, block: usize, out: usize) -> bool
-    ensures { λ r. ⌜ r ≡ (foldLimits (p .depth) (p .rate) (p .k0) && lengthsOk (p .depth) (baseSize (p .rate) (p .k0)) t t2 block out) ⌝ }
-{
-    if !limits_ok(p) {
-        return false;
-    }
-    let n = sizes::block_len(p, p.depth - 1);
-    if t != n {
-        return false;
-    }
-    if t2 != n {
-        return false;
-    }
-    if block != sizes::block_len(p, p.depth) {
-        return false;
-    }
-    out == n
-}
 
 // Whether all words are below the modulus, where those of the diagonals are.
 fn words_ok(diagonals: bool, block: &[u32], challenge: u32, field: Field) -> bool
@@ -111,18 +66,6 @@ fn judge_places(
     inputs::judge_diagonals(apart, t, t2)
 }
 
-// 1, 2 and 13, in this order.
-fn judge_limits(p: Parameters) -> Answer
-    ensures { λ a. ⌜ outcome a ≡ require (levelOk (p .k0) (p .depth)) 1 ⨾ require (rateOk (p .rate)) 2 ⨾ require (k0Ok (p .k0)) 13 ⌝ }
-{
-    let level = level_ok(p);
-    let rate = job::rate_ok(p.rate);
-    let k0 = sizes::k0_ok(p);
-    let third = job::require(k0, Refusal::BaseWords, Answer::Done);
-    let second = job::require(rate, Refusal::Rate, third);
-    job::require(level, Refusal::Depth, second)
-}
-
 // The first refusal that is due. Nothing is read where the lengths are not right.
 fn judge(
     p: Parameters,
@@ -135,10 +78,10 @@ fn judge(
 ) -> Answer
     ensures { λ r. ⌜ outcome r ≡ judgeFolding (chosen field) (p .depth) (p .rate) (p .k0) (now (t .entry)) (now (t2 .entry)) (now (block .entry)) challenge out ⌝ }
 {
-    let lengths = lengths_ok(p, t.len(), t2.len(), block.len(), out);
+    let lengths = fold_limits::lengths_ok(p, t.len(), t2.len(), block.len(), out);
     let diagonals = scan_diagonals(lengths, t, t2, field);
     let words = words_ok(diagonals.below, block, challenge, field);
-    let limits = judge_limits(p);
+    let limits = fold_limits::judge_limits(p);
     if let Answer::Refused(n) = limits {
         return Answer::Refused(n);
     }

@@ -1,20 +1,17 @@
 -- Decoding on columns that hold as many words as the message: every block is a codeword there, that of what it decodes to. Assumes nothing.
-use mathlib.Core.Path.{_≡_, refl, sym, ap, ap₂, _∙_}
-use mathlib.Core.List.{List, [], _∷_, _++_}
+use mathlib.Core.Path.{_≡_, sym, ap₂, _∙_}
+use mathlib.Core.List.{List, _++_}
 use Prim.Native.Nat.{ℕ, zero, suc, _^_}
-use native.Mathlib.Omega.{arith}
 use lib.ListN.{length}
 use Rattle.algebra.specs.Ring.{Ring}
 use Rattle.algebra.specs.Field.{Field}
-use Rattle.algebra.specs.Algebra.{algebra, quote, from₁}
 use Rattle.algebra.specs.Vector.{Vectors, vectors}
-use Rattle.foldable.specs.Code.{Code, oneRow, size, dim, slope, line, encode, Legal}
+use Rattle.foldable.specs.Code.{Code, size, dim, slope, line, encode, Legal}
 use Rattle.foldable.specs.Encode.{block-halves, below, length-encode, encode-halves}
 use Rattle.foldable.specs.Level.{lines, slopes, length-level, lines-first, lines-second}
 use Rattle.foldable.specs.Fold.{level-block}
-use Rattle.foldable.specs.Unique.{encode-word}
 use Rattle.foldable.specs.Columns.{length-pick, column, restrict, legal-restrict, column-encode}
-use Rattle.foldable.specs.Decode.{undo, length-undo, decode, length-decode, Decoder, divide}
+use Rattle.foldable.specs.Decode.{undo, length-undo, decode, length-decode, Decoder}
 use Rattle.foldable.specs.Every.{every-pick}
 use Rattle.foldable.specs.OneColumn.{oneColumn}
 
@@ -62,12 +59,3 @@ module _ (F : Field) where
         sym (every-pick 𝟘 (C .n₀) (2 ^ d) (encode F C d (decode F C 1 base d w)) (𝓓 .few) (length-encode F C d 𝓛 _))
         ∙ decode-column C 1 base 𝓓 back d 𝓛 w e
         ∙ every-pick 𝟘 (C .n₀) (2 ^ d) w (𝓓 .few) e
-
-  -- one base row, whose first word is not 0
-  module _ (g₀ : R) (g : List R) (T T' : ℕ → List R) where
-    pub row-back : (g₀ ≡ 𝟘 → ⊥) → (w : List R) → length w ≡ 1 → encode F (restrict F (oneRow F (g₀ ∷ g) T T') 1) 0 (divide F g₀ g T T' w) ≡ w
-    row-back unit [] e = absurd (omega arith)
-    row-back unit (x ∷ []) e =
-        encode-word F 1 (g₀ ∷ []) _ _ refl (K ._*_ (inv g₀) x)
-        ∙ ap (λ y. y ∷ []) (from₁ K x (mul-inv g₀ unit) (algebra K (x ∷ g₀ ∷ inv g₀ ∷ []) (search quote depth 20) refl))
-    row-back unit (x ∷ y ∷ w) e = absurd (omega arith)

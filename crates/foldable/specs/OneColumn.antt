@@ -10,9 +10,8 @@ use Rattle.algebra.specs.Field.{Field}
 use Rattle.algebra.specs.Lists.{row, length-row, getD-row, zip, length-zip, getD-zip, differ-at, differ-of}
 use Rattle.algebra.specs.Vector.{length-butterfly, getD-multiple, Vectors, vectors}
 use Rattle.algebra.specs.Matrix.{Wide, wide-map, times, length-times}
-use Rattle.foldable.specs.Code.{Code, oneRow, size, dim, generator, encode, Legal}
+use Rattle.foldable.specs.Code.{Code, size, dim, generator, encode, Legal}
 use Rattle.foldable.specs.Encode.{message-halves, below, length-encode, encode-halves}
-use Rattle.foldable.specs.Lift.{spread, lift, lift-spread}
 use Rattle.foldable.specs.Every.{every, place-within, every-append, every-zip}
 
 module _ (F : Field) (C : Code F) (j : ℕ) where
@@ -89,23 +88,3 @@ module _ (F : Field) (C : Code F) (j : ℕ) (within : j < C .n₀) where
       (one-column-encode i (below F C i 𝓛) (h .left) (h .length-left)) (one-column-encode i (below F C i 𝓛) (h .right) (h .length-right))
       ∙ sym (encode-halves F (columnCode F C j) i (legal-column (suc i) 𝓛) (h .left) (h .right) (h .length-left ∙ ap (λ x. x * 2 ^ i) (sym same)))
       ∙ ap (encode F (columnCode F C j) (suc i)) (h .whole)
-
-module _ (F : Field) where
-  infixr 71 _⊛_
-  open Field F using (ring as K)
-  open Ring K using (R, 𝟘, mul-comm)
-  open Vectors (vectors K) using (_⊛_)
-
-  spread-word : (x : R) (m : List R) → spread F (x ∷ []) m ≡ x ⊛ m
-  unfolding spread
-  spread-word x [] = refl
-  spread-word x (y ∷ m) = ap₂ _∷_ (mul-comm y x) (spread-word x m)
-
-  -- over one base row the levels of column j, over the multiple of the message by the row's word j, give that column of the codeword
-  pub lift-column : (g : List R) (T T' : ℕ → List R) (j : ℕ) → j < length g → (i : ℕ) → Legal F (oneRow F g T T') i → (m : List R) → length m ≡ 2 ^ i
-      → lift F (columnCode F (oneRow F g T T') j) i (getD g j 𝟘 ⊛ m) ≡ oneColumn F (oneRow F g T T') j i (encode F (oneRow F g T T') i m)
-  lift-column g T T' j within i 𝓛 m e =
-      let C = oneRow F g T T' in
-      ap (lift F (columnCode F C j) i) (sym (spread-word (getD g j 𝟘) m))
-      ∙ lift-spread F (getD g j 𝟘 ∷ []) (λ i. oneColumn F C j i (T i)) (λ i. oneColumn F C j i (T' i)) i (legal-column F C j within i 𝓛) m e
-      ∙ sym (one-column-encode F C j within i 𝓛 m (e ∙ sym (one-mul (2 ^ i))))

@@ -15,9 +15,9 @@ use Rattle.job.specs.Limits.{blockSize}
 use Rattle.parameters.specs.Lent.{lent}
 use Rattle.code.specs.Encoding.{EncodeInput}
 use Rattle.code.specs.Steps.{times, LiftInput}
-use Rattle.code.specs.Spreads.{spreaded, length-spreaded, length-scaled, spread-part, next-within}
-use Rattle.code.proofs.Encodes.{lifting, encoded}
+use Rattle.code.specs.SpreadLaws.{spreaded, length-spreaded, length-scaled, spread-part, next-within}
 use Rattle.halves_step.specs.Steps.{RightLent, RightSpread, CodeLent, RightWritten}
+use Rattle.halves_step.proofs.Encodes.{lifting, encoded}
 use Rattle.halves_step.proofs.Places.{part-take, getD-front, put-front, put-length, put-part, put-next}
 
 -- the right half of a message of two halves of n words each

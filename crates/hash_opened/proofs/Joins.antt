@@ -1,17 +1,17 @@
 -- Paths through a node from those through its children, and what is carried from words and paths. Assumes nothing.
 use mathlib.Core.Path.{_≡_, refl, sym, ap, ap₂, _∙_}
 use mathlib.Core.Bool.{Bool, true, false, cond}
-use mathlib.Core.List.{List, _++_, append-assoc}
+use mathlib.Core.List.{List, _++_}
 use Prim.Native.Nat.{ℕ, zero, suc, _+_, _*_, _-_, _/_, _%_, _^_, _≤_}
 use native.Mathlib.Nat.{add-zero, mod-lt, div-eq-of-lt}
 use native.Mathlib.Omega.{arith}
 use lib.Dec.{eqb}
 use lib.Pow.{shr-shr, pow-pos}
-use lib.ListN.{length, take, drop, length-append}
-use lib.Seq.{take-at, length-take-le, drop-drop, drop-append-add}
+use lib.ListN.{length}
 use borrow.Author.Tests.{eq-eqb, ne-eqb, eqb-true, eqb-false}
 use Rattle.algebra.specs.Bits.{either}
 use Rattle.algebra.specs.Lists.{put}
+use Rattle.algebra.specs.Puts.{put-behind}
 use Rattle.merkle.specs.Tree.{sibling, node}
 use Rattle.hash_tree.specs.Tree.{nodeHash}
 use Rattle.hash_root.specs.Levels.{leafOf}
@@ -20,20 +20,6 @@ use Rattle.hash_parts.specs.Parts.{Keeps, edit, edit-keeps, parts, put-parts, p
 use Rattle.hash_opened.specs.Carried.{pathBytes, carried, written, pathsPut}
 use Rattle.hash_opened.specs.CarriedLaws.{length-node, path-up, length-path, length-leaf}
 use Rattle.hash_opened.specs.WrittenLaws.{written-parts}
-
--- what is put behind what was put
-put-behind : (k m : ℕ) (x y p : List ℕ) → m ≡ k + length x → k + length x ≤ length p → put m y (put k x p) ≡ put k (x ++ y) p
-put-behind k m x y p e h =
-    let head : length (take k p ++ x) ≡ m = length-append (take k p) x ∙ omega (arith, length-take-le k p (omega arith)) in
-    let far : k + length x + length y ≡ k + length (x ++ y) = simp length-append (omega arith) in
-    let at : m + length y ≡ length (take k p ++ x) + length y = omega arith in
-    let d = drop (k + length x) p in
-    let q : put k x p ≡ (take k p ++ x) ++ d = sym (append-assoc (take k p) x d) in
-    ap (put m y) q
-    ∙ ap₂ (λ l r. l ++ (y ++ r))
-    (take-at (take k p ++ x) d m head)
-    (ap (λ i. drop i ((take k p ++ x) ++ d)) at ∙ drop-append-add (take k p ++ x) d (length y) ∙ drop-drop (length y) (k + length x) p ∙ ap (λ i. drop i p) far)
-    ∙ simp append-assoc
 
 -- one part: a list put for one child, for the other, and then a sibling
 abbrev thrice : ℕ → ℕ → List ℕ → List ℕ → List ℕ → Bool → Bool → Bool → List ℕ

@@ -4,7 +4,7 @@
 --     Strides          where every c-th place stands
 --     InversionLaws    what holds of differences of diagonals that differ, and of lists of words by their places
 --     Chains           what the inner loops hold
---     UnitLaws         elements with inverses
+--     UnitLaws         words of elements with inverses
 pub mod Inversion
 pub mod Scaled
 pub mod Strides

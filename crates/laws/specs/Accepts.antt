@@ -46,7 +46,8 @@ use Rattle.base_checks.specs.Laws.{base-sum, encode-base}
 use Rattle.verdict.specs.Verdicts.{checkNumbers, numbersOf}
 use Rattle.queries.specs.Queries.{queriesOk}
 use Rattle.queries.specs.QueryLaws.{queries-legal, queries-number}
-use Rattle.verify.specs.Verifying.{openedLengths, claimInputs, judgeOpened, judgeVerifying, verification}
+use Rattle.opened.specs.Opened.{openedLengths, claimInputs, judgeOpened}
+use Rattle.verify.specs.Verifying.{judgeVerifying, verification}
 use Rattle.laws.specs.Openings.{legal-queries}
 use Rattle.laws.specs.Equations.{finalWords, sentElement, finalElement, blockElement, claimed, Accepts}
 

@@ -17,8 +17,8 @@ use Rattle.job.specs.Limits.{blockSize}
 use Rattle.job.specs.Sizes.{baseSize}
 use Rattle.base_parameters.specs.Parameters.{LegalRows}
 use Rattle.base_spread.specs.LentRows.{codewordRows}
-use Rattle.root_rows.specs.Filling.{exponent, RootsFilled}
-use Rattle.root_rows.specs.FillingLaws.{done-exactly, filled-legal, filled-values}
+use Rattle.fill_roots.specs.Filling.{exponent, RootsFilled}
+use Rattle.fill_roots.specs.FillingLaws.{done-exactly, filled-legal, filled-values}
 use Rattle.laws.specs.Calls.{ExactEncode, ResidueMessage}
 use Rattle.laws.specs.FoldCalls.{encode-writes}
 
@@ -31,7 +31,7 @@ module _ {d c k : ℕ} {g t t' : List ℕ} {r : Answer} {g₁ t₁ t₁' : List 
   pub filled-row : LegalRows 𝔽₂ d c k g₁ t₁ t₁'
   filled-row = subst (λ k. LegalRows 𝔽₂ d c k g₁ t₁ t₁') (sym filled-one) (filled-legal d c k g t t' r g₁ t₁ t₁' 𝓒 e)
 
-  -- the root that the table has for blocks of level d, of the order n_d (filled-order, root_rows/FillingLaws)
+  -- the root that the table has for blocks of level d, of the order n_d (filled-order, fill_roots/FillingLaws)
   abbrev pub ω : F₂ .ring .R
   ω = root₂ (exponent c + d)
 

@@ -23,7 +23,8 @@ use Rattle.parameters.specs.Lent.{diagonal}
 use Rattle.base_parameters.specs.Parameters.{LegalRows}
 use Rattle.base_spread.specs.LentRows.{lentRows, codewordRows}
 use Rattle.lines.specs.Folds.{foldWords}
-use Rattle.decode.specs.Decoding.{judgeDecoding, Settled, message, none, Decoded, refusal, settled}
+use Rattle.base_settle.specs.Settling.{Settled, message, none}
+use Rattle.decode.specs.Decoding.{judgeDecoding, Decoded, refusal, settled}
 use Rattle.decode.specs.Laws.{exactly}
 use Rattle.laws.specs.Calls.{levelsBelow, foldedLevel, mixed, ExactEncode, ExactFold, ExactDecode, ResidueBlock, ResidueMessage, Decides, TwoChallenges}
 use Rattle.laws.specs.CallLaws.{coding-of}

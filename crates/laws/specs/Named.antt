@@ -28,17 +28,20 @@ use Rattle.base_parameters.specs.Parameters.{rowLengths}
 use Rattle.base_parameters.specs.ParameterLaws.{row-lengths, base-of-one}
 use Rattle.base_parameters.specs.NamedLaws.{sizes, RowsNamed, rows-named, singular-named}
 use Rattle.clearance.specs.Clearances.{clearanceOf, meaning}
-use Rattle.clearance.specs.Reading.{reading}
-use Rattle.table.specs.Depth.{tableOk}
-use Rattle.table.specs.Jobs.{judgeMessage}
-use Rattle.polynomial.specs.Evaluation.{evaluateLengths, evaluateInputs, judgeEvaluating}
+use Rattle.read_clearance.specs.Reading.{reading}
+use Rattle.table_length.specs.Depth.{tableOk}
+use Rattle.table.specs.Job.{judgeMessage}
+use Rattle.evaluate.specs.Evaluation.{evaluateLengths, evaluateInputs, judgeEvaluating}
 use Rattle.encode.specs.Encoding.{encodeLengths, judgeEncoding}
-use Rattle.decode.specs.Decoding.{decodeLengths, judgeDecoding, Settled, message, none, Decoded, refusal, settled}
-use Rattle.fold.specs.Job.{levelOk, lengthsOk, foldInputs, judgeFolding}
+use Rattle.base_settle.specs.Settling.{Settled, message, none}
+use Rattle.decode.specs.Decoding.{decodeLengths, judgeDecoding, Decoded, refusal, settled}
+use Rattle.fold_limits.specs.Limits.{levelOk, lengthsOk}
+use Rattle.fold.specs.Job.{foldInputs, judgeFolding}
 use Rattle.open.specs.Writing.{writeLengths, judgeWriting}
 use Rattle.queries.specs.Queries.{judgeQueries}
 use Rattle.queries.specs.QueryLaws.{queries-number}
-use Rattle.verify.specs.Verifying.{openedLengths, claimInputs, judgeOpened, judgeVerifying}
+use Rattle.opened.specs.Opened.{openedLengths, claimInputs, judgeOpened}
+use Rattle.verify.specs.Verifying.{judgeVerifying}
 
 never : {A : Type 0} {a : A} {n : Numbers} → _≡_ {A = Outcome A} (done a) (refused n) → ⊥
 never e = let z : _≡_ {A = ℕ} 0 1 = cc in omega arith

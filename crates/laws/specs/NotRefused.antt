@@ -25,7 +25,8 @@ use Rattle.parameters.specs.Parameters.{rowWords}
 use Rattle.base_parameters.specs.Parameters.{rowLengths, judgeRows, LegalRows}
 use Rattle.base_parameters.specs.ParameterLaws.{rows-done, lengths-of, words-of, apart-of}
 use Rattle.encode.specs.Encoding.{encodeLengths, judgeEncoding}
-use Rattle.fold.specs.Job.{levelOk, lengthsOk, foldInputs, judgeFolding}
+use Rattle.fold_limits.specs.Limits.{levelOk, lengthsOk}
+use Rattle.fold.specs.Job.{foldInputs, judgeFolding}
 use Rattle.decode.specs.Decoding.{decodeLengths, judgeDecoding}
 use Rattle.laws.specs.Calls.{levelsBelow}
 

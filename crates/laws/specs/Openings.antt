@@ -32,7 +32,8 @@ use Rattle.open.specs.Writing.{valueWord, openingWords}
 use Rattle.verdict.specs.Verdicts.{numbersOf}
 use Rattle.queries.specs.Queries.{maxQueries, queriesOk, judgeQueries}
 use Rattle.queries.specs.QueryLaws.{queries-legal}
-use Rattle.verify.specs.Verifying.{openedLengths, claimInputs, judgeVerifying, verification}
+use Rattle.opened.specs.Opened.{openedLengths, claimInputs}
+use Rattle.verify.specs.Verifying.{judgeVerifying, verification}
 use Rattle.base_parameters.specs.ParameterLaws.{within-of}
 use Rattle.laws.specs.CallLaws.{coding-of, rows-of}
 use Rattle.laws.specs.NotRefused.{row-judged}

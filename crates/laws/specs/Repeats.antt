@@ -17,7 +17,8 @@ use Rattle.queries.specs.Distinct.{Repeated}
 use Rattle.queries.specs.Queries.{queriesOk, judgeQueries}
 use Rattle.queries.specs.QueryLaws.{eleven-exactly}
 use Rattle.verdict.specs.Verdicts.{numbersOf}
-use Rattle.verify.specs.Verifying.{openedLengths, claimInputs, judgeOpened, judgeVerifying, verification}
+use Rattle.opened.specs.Opened.{openedLengths, claimInputs, judgeOpened}
+use Rattle.verify.specs.Verifying.{judgeVerifying, verification}
 use Rattle.laws.specs.Accepts.{check-least}
 
 -- of two outcomes and what the checks find, 11 can only come from the second

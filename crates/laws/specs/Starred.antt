@@ -38,19 +38,21 @@ use Rattle.job.specs.declared.Refusal.the-variants.{NoCodeword}
 use Rattle.job.specs.declared.Answer.the-variants.{Done, Refused}
 use Rattle.residue.specs.Residues.{P, F, K, Element, el, word, inv}
 use Rattle.clearance.specs.Clearances.{residueOf, clearanceOf}
-use Rattle.table.specs.Jobs.{MessageOf}
-use Rattle.table.specs.Depth.{exponentTo}
+use Rattle.coefficients.specs.Job.{MessageOf}
+use Rattle.table_length.specs.Depth.{exponentTo}
 use Rattle.parameters.specs.Lent.{diagonal}
 use Rattle.parameters.specs.Parameters.{rowWords}
 use Rattle.cofactor.specs.Rows.{rows, firstColumns}
 use Rattle.base_matrix.specs.Inverting.{baseOk}
 use Rattle.base_parameters.specs.Parameters.{rowLengths, legalBase, LegalRows}
 use Rattle.base_spread.specs.LentRows.{lentRows, codewordRows}
-use Rattle.decode.specs.Decoding.{judgeDecoding, decodeLengths, Decoded, settled, message, none}
+use Rattle.base_settle.specs.Settling.{message, none}
+use Rattle.decode.specs.Decoding.{judgeDecoding, decodeLengths, Decoded, settled}
 use Rattle.verdict.specs.Verdicts.{numbersOf}
 use Rattle.queries.specs.Distinct.{distinct}
 use Rattle.queries.specs.Queries.{queriesOk, judgeQueries}
-use Rattle.verify.specs.Verifying.{verification, judgeVerifying, openedLengths}
+use Rattle.opened.specs.Opened.{openedLengths}
+use Rattle.verify.specs.Verifying.{verification, judgeVerifying}
 use Rattle.laws.specs.Calls.{foldedLevel}
 use Rattle.laws.specs.Folds.{fold-law}
 use Rattle.open.specs.Writing.{valueWord, openingWords}

@@ -1,14 +1,11 @@
 // Clearances, tables and evaluation.
-use clearance::reading;
-use clearance::reading::Reading;
+use evaluate::Evaluation;
 use job::Answer;
 use job::Parameters;
 use job::Refusal;
 use job::sizes;
-use polynomial::Evaluation;
+use read_clearance::Reading;
 use residue::Field;
-use table::to_coefficients;
-use table::to_table;
 
 // Base messages of one word.
 fn one_word(depth: u32) -> Parameters {
@@ -34,7 +31,7 @@ fn meaning(r: Reading) {
 fn read(word: u32) {
     print::label(b"read");
     print::number(word);
-    meaning(reading::read_clearance(word, Field::First));
+    meaning(read_clearance::read_clearance(word, Field::First));
 }
 
 pub fn readings() {
@@ -49,7 +46,7 @@ pub fn readings() {
 fn transform(text: &[u8], t: &[i32], m: &mut [u32]) {
     print::answer(
         text,
-        to_coefficients::table_to_coefficients(one_word(0), t, m, Field::First),
+        coefficients::table_to_coefficients(one_word(0), t, m, Field::First),
     );
 }
 
@@ -99,7 +96,7 @@ fn coefficients(text: &[u8], t: &[i32], m: &mut [u32]) {
 fn back(m: &[u32], t: &mut [i32], work: &mut [u32]) {
     print::answer(
         b"and back:",
-        to_table::coefficients_to_table(one_word(0), m, t, work, Field::First),
+        table::coefficients_to_table(one_word(0), m, t, work, Field::First),
     );
 }
 
@@ -130,7 +127,7 @@ fn evaluate(text: &[u8], depth: u32, z: u32) {
     print::label(text);
     let m = [5u32, 7];
     let point = [z];
-    value(polynomial::evaluate(one_word(depth), &m, &point, Field::First));
+    value(evaluate::evaluate(one_word(depth), &m, &point, Field::First));
 }
 
 pub fn evaluations() {

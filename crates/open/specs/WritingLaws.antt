@@ -3,7 +3,7 @@ use mathlib.Core.Path.{_≡_, refl, sym}
 use mathlib.Core.Bool.{Bool, true}
 use mathlib.Core.Logic.{_↔_}
 use mathlib.Core.List.{List, [], _∷_}
-use Prim.Native.Nat.{ℕ, _*_, _≤_}
+use Prim.Native.Nat.{ℕ, _*_}
 use lib.Dec.{eqb}
 use lib.ListN.{length}
 use borrow.Author.Tests.{eqb-true, eq-eqb}
@@ -11,7 +11,7 @@ use Rattle.algebra.specs.Tests.{and-both}
 use Rattle.algebra.specs.Words.{PrimeField}
 use Rattle.algebra.specs.WordLists.{Low}
 use Rattle.job.specs.declared.Input.the-variants.{Block, Z, R}
-use Rattle.job.specs.Outcome.{Numbers, refused, done}
+use Rattle.job.specs.Outcome.{done}
 use Rattle.job.specs.OutcomeLaws.{pass-demand, demand-done}
 use Rattle.job.specs.Sizes.{baseSize, messageSize, low, pointSize, openingSize}
 use Rattle.job.specs.SizeLaws.{limits-within}
@@ -20,7 +20,6 @@ use Rattle.words.specs.ScanLaws.{all-below, below-all}
 use Rattle.places.specs.Inputs.{Lent, judgeWords}
 use Rattle.base_parameters.specs.Parameters.{rowLengths, LegalRows}
 use Rattle.base_parameters.specs.ParameterLaws.{rows-passed, rows-done, legal-passed, lengths-of, words-of, apart-of}
-use Rattle.base_parameters.specs.NamedLaws.{judge-number}
 use Rattle.base_rounds.specs.RowOpening.{WriteInput}
 use Rattle.base_open.specs.RowWriteLaws as rows
 use Rattle.open.specs.Writing.{inputLengths, bufferLengths, writeLengths, judgeWriting}
@@ -93,11 +92,6 @@ module _ (𝓕 : PrimeField) where
           let l = write-lengths d c k (length g) (length t) (length t') (length m) (length z) (length r) o s .1 (𝓡 .lengths, 𝓦 .lengths) in
           rows-done 𝓕 d c k g t t' L (writeInputs m z r) (record { within = limits-within d c k (𝓡 .within); lengths = l; words = 𝓡 .words; others = write-low m z r .1 (𝓦 .words); rows = 𝓡 .legal }),
     )
-
-    -- its refusals are 1 to 6 and 13
-    pub writing-number : (Q : ℕ → Type 0) → ((i : ℕ) → 1 ≤ i → i ≤ 6 → Q i) → Q 13 → {n : Numbers} → judgeWriting 𝓕 d c k g t t' m z r o s ≡ refused n → Q (n .0)
-    unfolding judgeWriting
-    writing-number Q q thirteen e = judge-number 𝓕 Q q thirteen d c k g t t' L (writeInputs m z r) e
 
     -- what may be written
     pub write-input : Writable d c k g t t' m z r o s → WriteInput 𝓕 d (low k) k (baseSize c k) g t t' m z r o s

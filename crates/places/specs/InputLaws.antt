@@ -3,16 +3,16 @@ use mathlib.Core.Path.{_≡_, refl, sym, ap, _∙_}
 use mathlib.Core.Bool.{Bool, true, false, not, false≢true}
 use mathlib.Core.Logic.{_↔_}
 use mathlib.Core.List.{List, [], _∷_}
-use Prim.Native.Nat.{ℕ, zero, suc, _<_, _≤_, min}
+use Prim.Native.Nat.{ℕ, zero, suc, _<_, min}
 use native.Mathlib.Omega.{arith}
 use lib.Dec.{ltb, eqb}
 use lib.ListN.{length, getD}
-use Rattle.algebra.specs.Tests.{all, all-at, all₂-at}
+use Rattle.algebra.specs.Tests.{all-at, all₂-at}
 use Rattle.algebra.specs.Words.{PrimeField}
 use Rattle.job.specs.declared.Input.the-variants.{G}
 use Rattle.job.specs.declared.Refusal.the-variants.{Word}
-use Rattle.job.specs.Outcome.{Numbers, Outcome, refused, done, inputNumber, due, demand, _⨾_}
-use Rattle.job.specs.OutcomeLaws.{named, refused-named, from-second, from-first}
+use Rattle.job.specs.Outcome.{Numbers, refused, inputNumber, due, demand, _⨾_}
+use Rattle.job.specs.OutcomeLaws.{named, refused-named}
 use Rattle.words.specs.Scans.{allBelow, noneZero, allDiffer}
 use Rattle.places.specs.Places.{AllPass, First, firstPlace, highPlace}
 use Rattle.places.specs.PlaceLaws.{first-only, place-first, place₂-first}
@@ -82,21 +82,6 @@ module _ (𝓕 : PrimeField) where
 
   pub word-named : (xs : List Lent) {j n : ℕ} → (judgeWords 𝓕 xs ≡ refused (4, j, n)) ↔ FirstWord 𝓕 xs j n
   word-named xs = (λ e. first-word xs e .1, λ f. word-first xs f)
-
-  -- in a job: behind what has smaller numbers, as the last, or before what gives no 4
-  pub four-last : (sizes : Outcome (Unit {0})) (xs : List Lent) {j n : ℕ} → ((m : Numbers) → sizes ≡ refused m → m .0 ≤ 3)
-      → (sizes ⨾ judgeWords 𝓕 xs ≡ refused (4, j, n)) ↔ ((sizes ≡ done tt) × FirstWord 𝓕 xs j n)
-  four-last sizes xs low = (
-    λ e. let a = from-second sizes (λ h. omega (arith, low (4, _, _) h)) e in (a .0, word-named xs .0 (a .1)),
-    λ h. rw (h .0, word-named xs .1 (h .1)),
-  )
-
-  pub four-exactly : {A : Type 0} (sizes : Outcome (Unit {0})) (xs : List Lent) {rest : Outcome A} {j n : ℕ} → ((m : Numbers) → sizes ≡ refused m → m .0 ≤ 3) → (rest ≡ refused (4, j, n) → ⊥)
-      → (sizes ⨾ judgeWords 𝓕 xs ⨾ rest ≡ refused (4, j, n)) ↔ ((sizes ≡ done tt) × FirstWord 𝓕 xs j n)
-  four-exactly sizes xs low none = (
-    λ e. let a = from-second sizes (λ h. omega (arith, low (4, _, _) h)) e in (a .0, word-named xs .0 (from-first (judgeWords 𝓕 xs) none (a .1))),
-    λ h. rw (h .0, word-named xs .1 (h .1)),
-  )
 
 -- a test that fails names the first place that does, and no other
 module _ (b : Bool) (passes : ℕ → Bool) (m a : ℕ) (held : b ≡ true → AllPass passes m) (broken : b ≡ false → First passes m (firstPlace passes m)) where

@@ -1,4 +1,3 @@
-pub mod Judged
 pub mod Values
 pub mod Factors
 pub mod LowMonomials

@@ -14,8 +14,8 @@ use Rattle.algebra.specs.WordLists.{elements, elements-take, elements-drop, ele
 use Rattle.multilinear.specs.Polynomial.{monomial, form, poly, poly-top}
 use Rattle.residue.specs.ResidueLaws.{stands}
 use Rattle.residue.specs.Sums.{Lent, inner}
-use Rattle.polynomial.specs.Evaluation.{EvaluateInput}
-use Rattle.polynomial.specs.EvaluationLaws.{lower, half-is, length-lower, rest}
+use Rattle.polynomial.specs.Lent.{EvaluateInput}
+use Rattle.polynomial.specs.LentLaws.{lower, half-is, length-lower, rest}
 use Rattle.polynomial.specs.Monomials.{Monomials}
 use Rattle.polynomial.specs.MonomialLaws.{monomial-take}
 

@@ -6,7 +6,7 @@ ghost use Rattle.algebra.specs.WordLists.{elements};
 ghost use Rattle.multilinear.specs.Polynomial.{poly};
 ghost use Rattle.residue.specs.Elements.{K, word};
 ghost use Rattle.residue.specs.Chosen.{chosen};
-ghost use Rattle.polynomial.specs.Evaluation.{EvaluateInput};
+ghost use Rattle.polynomial.specs.Lent.{EvaluateInput};
 ghost use Rattle.polynomial.specs.Monomials.{Monomials};
 use crate::monomials;
 use residue::Field;

@@ -15,11 +15,12 @@ use Rattle.decode.specs.Decoding.{Decoded}
 use Rattle.fold.specs.Job.{Folded}
 use Rattle.open.specs.Writing.{writtenOutcome as wrote, Wrote}
 use Rattle.open.specs.declared.Written.{Written}
-use Rattle.polynomial.specs.Evaluation.{evaluationOutcome as evaluated, evaluation}
-use Rattle.polynomial.specs.declared.Evaluation.{Evaluation}
+use Rattle.evaluate.specs.Evaluation.{evaluationOutcome as evaluated, evaluation}
+use Rattle.evaluate.specs.declared.Evaluation.{Evaluation}
 use Rattle.clearance.specs.Clearances.{Meaning, free, contact, overlap}
-use Rattle.table.specs.Jobs.{ToCoefficients, ToTable}
-use Rattle.root_rows.specs.Filling.{RootsFilled}
+use Rattle.coefficients.specs.Job.{ToCoefficients}
+use Rattle.table.specs.Job.{ToTable}
+use Rattle.fill_roots.specs.Filling.{RootsFilled}
 use Rattle.reply.specs.declared.answer.Reply.{Reply}
 use Rattle.reply.specs.declared.reading.ReadingReply.{ReadingReply}
 

@@ -1,12 +1,12 @@
 // A reading as C and Rust take it.
 ghost use mathlib.Core.Path.{_≡_};
-ghost use Rattle.clearance.specs.Reading.{readingOutcome};
+ghost use Rattle.read_clearance.specs.Reading.{readingOutcome};
 ghost use Rattle.job.specs.Outcome.{due};
 ghost use Rattle.reply.specs.Replies.{triple, readingReply};
 use crate::answer;
 use crate::answer::Reply;
-use clearance::reading::Reading;
 use job::Refusal;
+use read_clearance::Reading;
 
 // kind is 1 for free, 2 for an overlap, 3 for contact, whose amount is 0; kind and amount are 0 where the word is refused.
 #[repr(C)]

@@ -1,4 +1,3 @@
 -- Laws that belong to no one function.
-pub mod Powers
+pub mod Negatives
 pub mod Places
-pub mod Judging

@@ -1,5 +1,5 @@
 -- Base blocks in loose words, of a row that is multiplied by what the passes divide by. Assumes nothing.
-use mathlib.Core.Path.{_≡_, refl, sym, ap, ap₂, _∙_, subst}
+use mathlib.Core.Path.{_≡_, sym, ap, ap₂, _∙_, subst}
 use mathlib.Core.List.{List, [], _∷_, _++_, append-assoc}
 use Prim.Native.Nat.{ℕ, zero, suc, _+_, _*_, _-_, _^_, _<_, _≤_}
 use native.Mathlib.Nat.{mul-comm}
@@ -8,36 +8,31 @@ use native.Mathlib.Omega.{arith}
 use lib.ListN.{length, take, drop, getD, set, length-append, length-drop, length-map}
 use lib.Seq.{take-at, take-all, length-take-le}
 use borrow.Rule.Slice.PartMut.{putMid}
-use Rattle.algebra.specs.Ring.{Ring, one-mul}
+use Rattle.algebra.specs.Ring.{Ring}
 use Rattle.algebra.specs.Field.{Field}
 use Rattle.algebra.specs.Filling.{Filled, filled-none, filled-length, filled-turn, filled-end}
 use Rattle.algebra.specs.Lists.{map-take, map-drop}
 use Rattle.algebra.specs.Parts.{filled-part}
 use Rattle.algebra.specs.Sums.{prod}
-use Rattle.algebra.specs.Vector.{Vectors, vectors, multiple-multiple, getD-multiple}
+use Rattle.algebra.specs.UnitLaws.{done, undone, undone-word, cancel, cancel-power, power-next}
+use Rattle.algebra.specs.Vector.{Vectors, vectors, getD-multiple}
 use Rattle.algebra.specs.Words.{Words, PrimeField, 𝔽₁, 𝔽₂}
-use Rattle.algebra.specs.WordLists.{Low, low-none, low-tail, low-cons, low-append, low-words, elements, toWords, elements-words, length-elements, length-words, getD-elements}
+use Rattle.algebra.specs.WordLaws.{same-word}
+use Rattle.algebra.specs.WordLists.{Low, low-none, low-tail, low-cons, low-append, low-words, elements, elements-set, elements-put, toWords, elements-words, length-elements, length-words, getD-elements}
 use Rattle.foldable.specs.Lift.{lift, spread, length-spread}
 use Rattle.foldable.specs.Sweep.{spread-multiple, lift-multiple}
 use Rattle.parameters.specs.Lent.{lent}
 use Rattle.residue.specs.declared.Field.{Field as Choice}
 use Rattle.residue.specs.declared.Field.the-variants.{First, Second}
-use Rattle.residue.specs.Elements.{P, F, K, el, word, product}
+use Rattle.residue.specs.Elements.{F, K, el, word, product}
 use Rattle.residue.specs.Chosen.{chosen}
-use Rattle.residue.specs.Scale.{scale, room, scalePower}
+use Rattle.residue.specs.ResidueLaws.{stands}
+use Rattle.residue.specs.Scale.{scale, scalePower}
+use Rattle.residue.specs.ScaleLaws.{first-power, next-power}
 use Rattle.code.specs.Encoding.{EncodeInput}
-use Rattle.code.specs.Steps.{times, Scaled, SpreadInput, LooseInput}
-use Rattle.code.specs.Loose.{same-word, elements-set, elements-put, done, undone, undone-word, power-none, power-suc}
-use Rattle.code.specs.Spreads.{chunk}
-
--- words below the modulus are factors, and what comes out is loose
-pub as-factor : (f : Choice) {w : ℕ} → w < P (chosen f) → w < room f
-as-factor First h = h
-as-factor Second h = omega arith
-
-pub as-loose : (f : Choice) {w : ℕ} → w < room f → w < P (chosen f) + P (chosen f)
-as-loose First h = omega arith
-as-loose Second h = h
+use Rattle.passes.specs.Steps.{Scaled, LooseInput}
+use Rattle.code.specs.Steps.{times, SpreadInput}
+use Rattle.code.specs.SpreadLaws.{chunk}
 
 -- the first words, after a write
 low-front : {m : ℕ} (ws : List ℕ) (i a : ℕ) → a < m → Low m (take i ws) → Low m (take (suc i) (set ws i a))
@@ -84,7 +79,7 @@ module _ (𝓕 : PrimeField) where
           scaled-end h =
               record {
                 loose = subst (Low (Q + Q)) (take-all b out (omega (arith, scaled-length))) (p .loose);
-                stands = done 𝓕 s u unit (filled-end (omega (arith, length-elements 𝓕 o)) length-new (p .filled));
+                stands = done K' s u unit (filled-end (omega (arith, length-elements 𝓕 o)) length-new (p .filled));
               }
 
           pub scaled-word : {w : ℕ} → b < length o → w < Q + Q → elt w ⊠ s ≡ getD v b 𝟘 → ScaledTo v o (b + 1) (set out b w)
@@ -93,7 +88,7 @@ module _ (𝓕 : PrimeField) where
                 loose = subst (λ n. Low (Q + Q) (take n (set out b w))) (sym (add-one b)) (low-front out b w l (p .loose));
                 filled =
                     rw (elements-set 𝓕 out b w)
-                    (filled-turn 𝟘 (omega (arith, length-elements 𝓕 o)) length-new (p .filled) (undone-word 𝓕 s u unit e ∙ sym (getD-multiple K' u v b)));
+                    (filled-turn 𝟘 (omega (arith, length-elements 𝓕 o)) length-new (p .filled) (undone-word K' s u unit e ∙ sym (getD-multiple K' u v b)));
               }
 
           pub scaled-part : (e : ℕ) (r : List ℕ) → b ≤ e → e ≤ length o → length r ≡ e - b → Scaled 𝓕 s (take (e - b) (drop b v)) r → ScaledTo v o e (putMid b (e - b) out r)
@@ -102,22 +97,8 @@ module _ (𝓕 : PrimeField) where
                 loose = low-part b e out r h (omega (arith, scaled-length)) n (p .loose) (q .loose);
                 filled =
                     rw (elements-put 𝓕 b (e - b) out r)
-                    (filled-part e 𝟘 (elements 𝓕 r) (p .filled) h (omega (arith, length-elements 𝓕 o)) length-new (undone 𝓕 s u unit (q .stands) ∙ map-take (K' ._*_ u) (e - b) (drop b v) ∙ ap (take (e - b)) (map-drop (K' ._*_ u) b v)));
+                    (filled-part e 𝟘 (elements 𝓕 r) (p .filled) h (omega (arith, length-elements 𝓕 o)) length-new (undone K' s u unit (q .stands) ∙ map-take (K' ._*_ u) (e - b) (drop b v) ∙ ap (take (e - b)) (map-drop (K' ._*_ u) b v)));
               }
-
-    -- what s, or a power of it, makes equal is equal
-    cancel : {w v : List Element} → s ⊛ w ≡ s ⊛ v → w ≡ v
-    cancel e = undone 𝓕 s u unit e ∙ sym (undone 𝓕 s u unit refl)
-
-    cancel-power : (n : ℕ) {w v : List Element} → prod K' n (λ i. s) ⊛ w ≡ prod K' n (λ i. s) ⊛ v → w ≡ v
-    cancel-power zero {w} {v} e = sym (power-none 𝓕 s w) ∙ e ∙ power-none 𝓕 s v
-    cancel-power (suc n) {w} {v} e = cancel (cancel-power n (sym (power-suc 𝓕 s n w) ∙ e ∙ power-suc 𝓕 s n v))
-
-    power-next : (n : ℕ) (v : List Element) → prod K' (n + 1) (λ i. s) ⊛ v ≡ s ⊛ prod K' n (λ i. s) ⊛ v
-    power-next n v =
-        let p = prod K' n (λ i. s) in
-        ap (λ k. prod K' k (λ i. s) ⊛ v) (add-one n) ∙ power-suc 𝓕 s n v
-        ∙ sym (multiple-multiple K' p s v) ∙ ap (λ x. x ⊛ v) (K' .mul-comm p s) ∙ multiple-multiple K' s p v
 
     -- the row times the power, spread, lifted and divided by it
     pub row-lifted : (d : ℕ) (g t t' m row o w : List ℕ) → row ≡ toWords 𝓕 (prod K' (d + 1) (λ i. s) ⊛ elements 𝓕 g)
@@ -128,10 +109,10 @@ module _ (𝓕 : PrimeField) where
         let a = prod K' d (λ i. s) in
         let v = spread F' (elements 𝓕 g) (elements 𝓕 m) in
         let base : elements 𝓕 o ≡ a ⊛ v =
-        cancel
+        cancel K' s u unit
         (p .stands ∙ ap (λ r. spread F' r (elements 𝓕 m)) (ap (elements 𝓕) e ∙ elements-words 𝓕 _)
-        ∙ spread-multiple F' (prod K' (d + 1) (λ i. s)) (elements 𝓕 g) (elements 𝓕 m) ∙ power-next d v) in
-        cancel-power d (q .stands ∙ ap (lift F' (lent 𝓕 g t t') d) base ∙ lift-multiple F' (lent 𝓕 g t t') d a v)
+        ∙ spread-multiple F' (prod K' (d + 1) (λ i. s)) (elements 𝓕 g) (elements 𝓕 m) ∙ power-next K' s d v) in
+        cancel-power K' s u unit d (q .stands ∙ ap (lift F' (lent 𝓕 g t t') d) base ∙ lift-multiple F' (lent 𝓕 g t t') d a v)
 
   -- what the steps are lent
   module _ (d : ℕ) (g t t' m out : List ℕ) (𝓔 : EncodeInput 𝓕 d g t t' m (length out)) where
@@ -174,33 +155,16 @@ module _ (𝓕 : PrimeField) (m row : List ℕ) where
       ∙ chunk 𝓕 (elements 𝓕 row) (elements 𝓕 m) i (omega (arith, length-elements 𝓕 m)) ∙ ap (λ x. times 𝓕 x (elements 𝓕 row)) (getD-elements 𝓕 m i))
 
 -- the factor
-first-one : (n : ℕ) → scalePower First n ≡ K 𝔽₁ .𝟙
-unfolding prod
-first-one zero = refl
-first-one (suc n) = ap₂ (K 𝔽₁ ._*_) (first-one n) (𝔽₁ .words .el-one) ∙ K 𝔽₁ .mul-one (K 𝔽₁ .𝟙)
-
-pub factor-first : {f : Choice} (n : ℕ) → f ≡ First → 1 ≡ word (chosen f) (scalePower f n)
-factor-first n e =
-    subst (λ x. 1 ≡ word (chosen x) (scalePower x n)) (sym e)
-    (sym (𝔽₁ .words .val-el 1 (omega arith)) ∙ ap (word 𝔽₁) (𝔽₁ .words .el-one ∙ sym (first-one n)))
-
-second-power : (d : ℕ) → K 𝔽₂ ._*_ (scalePower Second d) (scalePower Second 1) ≡ scalePower Second (suc d)
-unfolding prod
-second-power d = ap (K 𝔽₂ ._*_ (scalePower Second d)) (one-mul (K 𝔽₂) (el 𝔽₂ (scale Second)))
-
-pub factor-second : {f : Choice} (d : ℕ) {a b r : ℕ} → f ≡ Second → a ≡ word 𝔽₂ (scalePower Second d) → b ≡ word 𝔽₂ (scalePower Second 1) → r ≡ product 𝔽₂ a b
+pub factor-is : (f : Choice) (d : ℕ) {a b r : ℕ} → a ≡ word (chosen f) (scalePower f d) → b ≡ word (chosen f) (scalePower f 1) → r ≡ product (chosen f) a b
     → r ≡ word (chosen f) (scalePower f (d + 1))
-factor-second d {a} {b} {r} e p q s =
-    subst (λ x. r ≡ word (chosen x) (scalePower x (d + 1))) (sym e)
-    (s ∙ ap (word 𝔽₂) (ap₂ (K 𝔽₂ ._*_) (ap (el 𝔽₂) p ∙ 𝔽₂ .words .el-val (scalePower Second d)) (ap (el 𝔽₂) q ∙ 𝔽₂ .words .el-val (scalePower Second 1)) ∙ second-power d ∙ ap (scalePower Second) (sym (add-one d))))
-
-pub factor-low : (f : Choice) (x : K (chosen f) .R) {a : ℕ} → a ≡ word (chosen f) x → a < P (chosen f)
-factor-low f x e = rw e (chosen f .words .val-lt x)
+factor-is f d p q s =
+    let 𝓕 = chosen f in
+    s ∙ ap (word 𝓕) (ap₂ (K 𝓕 ._*_) (stands 𝓕 _ p) (stands 𝓕 _ q) ∙ next-power f d ∙ ap (scalePower f) (sym (add-one d)))
 
 -- the row times the factor
 pub scaled-is : (f : Choice) (d : ℕ) (g : List ℕ) {a : ℕ} → a ≡ word (chosen f) (scalePower f (d + 1))
     → toWords (chosen f) (times (chosen f) (el (chosen f) a) (elements (chosen f) g)) ≡ toWords (chosen f) (times (chosen f) (scalePower f (d + 1)) (elements (chosen f) g))
-scaled-is f d g e = ap (λ x. toWords (chosen f) (times (chosen f) x (elements (chosen f) g))) (ap (el (chosen f)) e ∙ chosen f .words .el-val (scalePower f (d + 1)))
+scaled-is f d g e = ap (λ x. toWords (chosen f) (times (chosen f) x (elements (chosen f) g))) (stands (chosen f) _ e)
 
 -- in front of an array
 pub row-length : (n : ℕ) (r z : List ℕ) → length r ≡ n → n ≤ 16 → length z ≡ 16 → length (r ++ drop n z) ≡ 16

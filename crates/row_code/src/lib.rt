@@ -10,7 +10,8 @@ ghost use Rattle.residue.specs.Chosen.{chosen};
 ghost use Rattle.residue.specs.Scale.{scale, scalePower};
 ghost use Rattle.parameters.specs.Lent.{lent};
 ghost use Rattle.code.specs.Encoding.{EncodeInput};
-ghost use Rattle.code.specs.Steps.{times, Scaled, SpreadInput};
+ghost use Rattle.passes.specs.Steps.{Scaled};
+ghost use Rattle.code.specs.Steps.{times, SpreadInput};
 use code::lift;
 use code::spread;
 use residue::Field;
@@ -20,13 +21,8 @@ use residue::Residue;
 fn factor(depth: u32, field: Field) -> Residue
     ensures { λ r. ⌜ r .0 ≡ word (chosen field) (scalePower field (depth + 1)) ⌝ }
 {
-    match field {
-        Field::First => Residue::ONE,
-        Field::Second => {
-            let once = Residue::second_scale(1);
-            Residue::second_scale(depth).times(once, Field::Second)
-        }
-    }
+    let once = Residue::scale_power(1, field);
+    Residue::scale_power(depth, field).times(once, field)
 }
 
 // The row times that, in the first words.

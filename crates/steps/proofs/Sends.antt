@@ -13,7 +13,7 @@ use Rattle.algebra.specs.WordLists.{elements, toWords, elements-take, elements-
 use Rattle.multilinear.specs.Polynomial.{poly}
 use Rattle.multilinear.specs.Rounds.{h}
 use Rattle.polynomial.specs.Eq.{factor}
-use Rattle.polynomial.specs.EvaluationLaws.{lower, half-is, rest}
+use Rattle.polynomial.specs.LentLaws.{lower, half-is, rest}
 use Rattle.residue.specs.declared.Residue.{Residue}
 use Rattle.residue.specs.Elements.{elem}
 use Rattle.residue.specs.ResidueLaws.{stands}

@@ -14,7 +14,7 @@ use Rattle.multilinear.specs.Folding.{foldMessage}
 use Rattle.multilinear.specs.Polynomial.{poly}
 use Rattle.multilinear.specs.Rounds.{h}
 use Rattle.polynomial.specs.Eq.{factor}
-use Rattle.polynomial.specs.Evaluation.{EvaluateInput}
+use Rattle.polynomial.specs.Lent.{EvaluateInput}
 use Rattle.residue.specs.declared.Residue.{Residue}
 use Rattle.residue.specs.Elements.{Low, elem}
 

@@ -1,5 +1,3 @@
 -- What the proofs of the functions share.
---     Bits      one set bit and its trailing zeros
---     Finding   the inner functions of the two table jobs, and the jobs
-pub mod Bits
+--     Finding   the inner function of the job, and the job
 pub mod Finding

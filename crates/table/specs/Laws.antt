@@ -1,4 +1,4 @@
--- A table has exactly one message, and the two jobs undo each other. Assumes nothing.
+-- The two table jobs undo each other. Assumes nothing.
 use mathlib.Core.Path.{_≡_, refl, sym, ap, ap₂, _∙_, subst}
 use mathlib.Core.Bool.{true, _&&_}
 use mathlib.Core.List.{List, [], _∷_, map}
@@ -9,54 +9,26 @@ use Rattle.algebra.specs.Tests.{all, and-both}
 use Rattle.algebra.specs.Ring.{Ring}
 use Rattle.algebra.specs.Field.{Field}
 use Rattle.algebra.specs.Words.{Words, PrimeField}
-use Rattle.algebra.specs.WordLists.{Low, elements, toWords, length-elements, length-words, elements-words, words-elements, low-words}
-use Rattle.multilinear.specs.Table.{table, coefficients, length-table, length-coefficients, table-coefficients, table-injective}
+use Rattle.algebra.specs.WordLists.{Low, elements, toWords, length-words}
+use Rattle.multilinear.specs.Table.{table, length-table}
 use Rattle.job.specs.declared.Answer.{Answer}
-use Rattle.job.specs.Outcome.{Outcome, done, outcome, kept}
+use Rattle.job.specs.Outcome.{done, outcome, kept}
 use Rattle.words.specs.ScanLaws.{all-below, below-all}
 use Rattle.clearance.specs.Clearances.{inRange, residueOf, clearanceOf}
 use Rattle.clearance.specs.ClearanceLaws.{residue-lt, clearance-residue, clearance-range, residue-clearance}
-use Rattle.table.specs.Depth.{isPower, exponent, tableOk}
-use Rattle.table.specs.DepthLaws.{exponent-is}
-use Rattle.table.specs.Judged.{table-passed, table-done, message-passed, message-done}
-use Rattle.table.specs.Jobs.{judgeTable, MessageOf, Leaves, ToCoefficients, tableOf, ToTable}
-
--- a job that is done has left what it makes
-pub made : {A B : Type 0} (o : Outcome A) {a : A} (old new : List B) (M : Type 0) → o ≡ done a → Leaves o old new M → M
-made o old new M e l = subst (λ x. Leaves x old new M) e l
+use Rattle.table_length.specs.Depth.{isPower, exponent, tableOk}
+use Rattle.table_length.specs.DepthLaws.{exponent-is}
+use Rattle.coefficients.specs.Job.{judgeTable, MessageOf, ToCoefficients}
+use Rattle.coefficients.specs.Judged.{table-passed, table-done}
+use Rattle.coefficients.specs.Laws.{made, message-unique}
+use Rattle.table.specs.Job.{tableOf, ToTable}
+use Rattle.table.specs.Judged.{message-passed, message-done}
 
 module _ (𝓕 : PrimeField) where
   open PrimeField 𝓕 using (modulus as P, field as F, words as W)
   open Field F using (ring as K)
   open Ring K using (R as Element)
   open Words W using (el, val as word, val-lt, val-el, el-val)
-
-  -- the elements of a table's residues
-  values : (t : List ℤ) → elements 𝓕 (map (residueOf 𝓕) t) ≡ map (λ x. el (residueOf 𝓕 x)) t
-  unfolding elements
-  values [] = refl
-  values (x ∷ t) = ap (λ l. el (residueOf 𝓕 x) ∷ l) (values t)
-
-  -- the message of a table
-  pub message-found : (t : List ℤ) → isPower (length t) ≡ true → MessageOf 𝓕 t (toWords 𝓕 (coefficients K (exponent (length t)) (elements 𝓕 (map (residueOf 𝓕) t))))
-  message-found t e =
-      let d = exponent (length t) in
-      let v = elements 𝓕 (map (residueOf 𝓕) t) in
-      let size : length v ≡ 2 ^ d = length-elements 𝓕 (map (residueOf 𝓕) t) ∙ length-map t (residueOf 𝓕) ∙ exponent-is _ (length t) e in
-      record {
-        size = length-words 𝓕 (coefficients K d v) ∙ length-coefficients K d v size;
-        low = low-words 𝓕 (coefficients K d v);
-        values = ap (table K d) (elements-words 𝓕 (coefficients K d v)) ∙ table-coefficients K d v size ∙ values t;
-      }
-
-  -- no other list of words is one
-  pub message-unique : (t : List ℤ) (m m′ : List ℕ) → MessageOf 𝓕 t m → MessageOf 𝓕 t m′ → m ≡ m′
-  message-unique t m m′ p q =
-      let d = exponent (length t) in
-      sym (words-elements 𝓕 m (p .low))
-      ∙ ap (toWords 𝓕)
-      (table-injective K d (elements 𝓕 m) (elements 𝓕 m′) (length-elements 𝓕 m ∙ p .size) (length-elements 𝓕 m′ ∙ q .size) (p .values ∙ sym (q .values)))
-      ∙ words-elements 𝓕 m′ (q .low)
 
   -- clearances as words, and back
   read-back : (t : List ℤ) → all (inRange 𝓕) t ≡ true → map (clearanceOf 𝓕) (toWords 𝓕 (map (λ x. el (residueOf 𝓕 x)) t)) ≡ t
@@ -122,6 +94,6 @@ module _ (𝓕 : PrimeField) where
       let same : length t ≡ length m = ap length is ∙ length-tableOf m (legal .power) in
       let fine = table-done 𝓕 k t (length other) (ap (tableOk k) same ∙ legal .fits) (legal .base) (o ∙ sym same) (ap (all (inRange 𝓕)) is ∙ in-range _) in (
         c .answer ∙ sym fine,
-        message-unique t m′ m (made (judgeTable 𝓕 k t (length other)) other m′ (MessageOf 𝓕 t m′) (sym fine) (c .message))
+        message-unique 𝓕 t m′ m (made (judgeTable 𝓕 k t (length other)) other m′ (MessageOf 𝓕 t m′) (sym fine) (c .message))
             (subst (λ x. MessageOf 𝓕 x m) (sym is) (message-table m (legal .power) (all-below 𝓕 m (legal .below)))),
       )

@@ -1,7 +1,7 @@
 -- The words of a slice during a pass, block after block, and from pass to pass. Assumes nothing.
 use mathlib.Core.Path.{_≡_, refl, sym, ap, ap₂, _∙_, subst}
-use mathlib.Core.List.{List, [], _∷_, _++_, append-nil}
-use Prim.Native.Nat.{ℕ, zero, suc, _+_, _*_, _-_, _/_, _^_, _<_, _≤_}
+use mathlib.Core.List.{List, _++_, append-nil}
+use Prim.Native.Nat.{ℕ, suc, _+_, _*_, _-_, _/_, _^_, _<_, _≤_}
 use native.Mathlib.Nat.{suc-mul, zero-mul, mul-le-mul-right}
 use native.Mathlib.Numerals.{add-one}
 use native.Mathlib.Omega.{arith}
@@ -12,7 +12,7 @@ use borrow.Rule.Slice.PartMut.{putMid}
 use Rattle.algebra.specs.Ring.{Ring}
 use Rattle.algebra.specs.Field.{Field}
 use Rattle.algebra.specs.Words.{PrimeField}
-use Rattle.algebra.specs.WordLists.{Low, low-take, low-drop, low-words, elements, toWords, length-elements, length-words, elements-take, elements-drop, elements-words, words-elements}
+use Rattle.algebra.specs.WordLists.{Low, low-take, low-drop, low-words, elements, toWords, length-elements, length-words, elements-take, elements-drop, elements-words, words-elements, words-take, words-drop}
 use Rattle.residue.specs.declared.Field.{Field as Choice}
 use Rattle.residue.specs.Elements.{P}
 use Rattle.residue.specs.Chosen.{chosen}
@@ -24,18 +24,6 @@ module _ (𝓕 : PrimeField) where
   open PrimeField 𝓕 using (modulus as P, field as F)
   open Field F using (ring as K)
   open Ring K using (R as Element)
-
-  words-take : (n : ℕ) (v : List Element) → take n (toWords 𝓕 v) ≡ toWords 𝓕 (take n v)
-  unfolding toWords
-  words-take zero v = refl
-  words-take (suc n) [] = refl
-  words-take (suc n) (a ∷ v) = ap (λ l. 𝓕 .words .val a ∷ l) (words-take n v)
-
-  words-drop : (n : ℕ) (v : List Element) → drop n (toWords 𝓕 v) ≡ toWords 𝓕 (drop n v)
-  unfolding toWords
-  words-drop zero v = refl
-  words-drop (suc n) [] = refl
-  words-drop (suc n) (a ∷ v) = words-drop n v
 
   -- the words after a pass over c blocks of twice h words
   abbrev pub passed : (Element → Element → Element) → ℕ → ℕ → List ℕ → List ℕ
@@ -88,7 +76,7 @@ module _ (𝓕 : PrimeField) where
 
     block : i < c → take (h + h) (drop a (passed f h c ws)) ≡ toWords 𝓕 (crossed f h (elements 𝓕 (take (h + h) (drop a ws))))
     block p =
-        ap (take (h + h)) (words-drop a _) ∙ words-take (h + h) _
+        ap (take (h + h)) (sym (words-drop 𝓕 a _)) ∙ sym (words-take 𝓕 (h + h) _)
         ∙ ap (toWords 𝓕)
         (ap (λ m. take (h + h) (drop m (blocks (crossed f h) (h + h) c (elements 𝓕 ws)))) (x .at)
         ∙ block-at (crossed f h) (h + h) (length-crossed f h) c i (elements 𝓕 ws) length-all p

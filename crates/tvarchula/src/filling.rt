@@ -13,5 +13,5 @@ pub extern "C" fn tv_fill_roots(
 ) -> Reply
     ensures { λ r. ⌜ FillCall (p .depth) (p .rate) (p .k0) (now (g .entry)) (now (t .entry)) (now (t2 .entry)) r (now (g .exit)) (now (t .exit)) (now (t2 .exit)) ⌝ }
 {
-    answer::plain(root_rows::filling::fill_roots(p, g, t, t2))
+    answer::plain(fill_roots::fill_roots(p, g, t, t2))
 }

@@ -1,9 +1,9 @@
 // Clearances, tables and evaluation.
 ghost use mathlib.Core.Path.{_≡_};
-ghost use Rattle.clearance.specs.Reading.{reading as readingOf};
+ghost use Rattle.read_clearance.specs.Reading.{reading as readingOf};
 ghost use Rattle.reply.specs.Replies.{fieldOf, readingReply, ToCoefficientsCall, ToTableCall, EvaluateCall};
+use evaluate::Evaluation;
 use job::Parameters;
-use polynomial::Evaluation;
 use reply::answer;
 use reply::answer::Reply;
 use reply::field;
@@ -14,7 +14,7 @@ use reply::reading::ReadingReply;
 pub extern "C" fn tv_read_clearance(field: bool, word: u32) -> ReadingReply
     ensures { λ r. ⌜ r ≡ readingReply (readingOf (fieldOf field) word) ⌝ }
 {
-    reading::told(clearance::reading::read_clearance(word, field::named(field)))
+    reading::told(read_clearance::read_clearance(word, field::named(field)))
 }
 
 #[no_mangle]
@@ -26,12 +26,7 @@ pub extern "C" fn tv_table_to_coefficients(
 ) -> Reply
     ensures { λ r. ⌜ ToCoefficientsCall (fieldOf field) (p .k0) (now (clearances .entry)) (now (message .entry)) (now (message .exit)) r ⌝ }
 {
-    answer::plain(table::to_coefficients::table_to_coefficients(
-        p,
-        clearances,
-        message,
-        field::named(field),
-    ))
+    answer::plain(coefficients::table_to_coefficients(p, clearances, message, field::named(field)))
 }
 
 #[no_mangle]
@@ -44,13 +39,7 @@ pub extern "C" fn tv_coefficients_to_table(
 ) -> Reply
     ensures { λ r. ⌜ ToTableCall (fieldOf field) (p .k0) (now (message .entry)) (now (clearances .entry)) (now (clearances .exit)) (now (work .entry)) (now (work .exit)) r ⌝ }
 {
-    answer::plain(table::to_table::coefficients_to_table(
-        p,
-        message,
-        clearances,
-        work,
-        field::named(field),
-    ))
+    answer::plain(table::coefficients_to_table(p, message, clearances, work, field::named(field)))
 }
 
 #[no_mangle]
@@ -63,7 +52,7 @@ pub extern "C" fn tv_evaluate(
 ) -> Reply
     ensures { λ r. ⌜ EvaluateCall (fieldOf field) (p .depth) (p .k0) (now (message .entry)) (now (z .entry)) (now (value .entry)) r (now (value .exit)) ⌝ }
 {
-    let e = polynomial::evaluate(p, message, z, field::named(field));
+    let e = evaluate::evaluate(p, message, z, field::named(field));
     match e {
         Evaluation::Value(v) => {
             *value = v;

@@ -5,7 +5,7 @@ use borrow.Author.Needs.{needs}
 use Rattle.residue.specs.Elements.{sumProduct}
 use Rattle.residue.specs.Chosen.{chosen}
 use Rattle.residue.specs.ResidueLaws.{is-low}
-use Rattle.polynomial.specs.EvaluationLaws.{length-lower, left-input, right-input}
+use Rattle.polynomial.specs.LentLaws.{length-lower, left-input, right-input}
 use Rattle.polynomial.proofs.Values.{monomials-lower, joined}
 use Prim.Native.Nat.{ℕ, _<_}
 use borrow.Fn.Kinds.{In}

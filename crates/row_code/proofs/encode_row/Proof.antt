@@ -8,7 +8,7 @@ use Rattle.algebra.specs.WordLists.{toWords}
 use Rattle.residue.specs.Chosen.{chosen}
 use Rattle.residue.specs.Elements.{el}
 use Rattle.residue.specs.Scale.{scale, scalePower}
-use Rattle.code.specs.Settling.{share, unit}
+use Rattle.residue.specs.ScaleLaws.{share, scale-unit}
 use Rattle.row_code.proofs.Rows.{row-spreading, row-lifting, row-lifted}
 use Rattle.row_code.proofs.encode_row.Statement.{statement}
 use Rattle.row_code.proofs.encode_row.Tie as tie
@@ -47,7 +47,7 @@ returns c =
     let f = a .field in
     c .before .before .settle .ensures
     ∙ ap (toWords (chosen f))
-    (row-lifted (chosen f) (el (chosen f) (scale f)) (share f) (unit f) (a .depth) (a .g .now) (a .t .now) (a .t2 .now) (a .m .now) _ _ _ (c .before .before .before .before .before .before .before .before .before .before .before .before .before .scaled-row .ensures .1) (c .before .before .before .before .before .before .before .before .before .before .spread-loose .ensures) (c .before .before .before .before .before .before .lift-loose .ensures))
+    (row-lifted (chosen f) (el (chosen f) (scale f)) (share f) (scale-unit f) (a .depth) (a .g .now) (a .t .now) (a .t2 .now) (a .m .now) _ _ _ (c .before .before .before .before .before .before .before .before .before .before .before .before .before .scaled-row .ensures .1) (c .before .before .before .before .before .before .before .before .before .before .spread-loose .ensures) (c .before .before .before .before .before .before .lift-loose .ensures))
 
 pub encode-row-spec : {M : Type 1} → statement M
 encode-row-spec =

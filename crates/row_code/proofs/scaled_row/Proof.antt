@@ -2,7 +2,9 @@ use mathlib.Core.Path.{refl, sym, _∙_}
 use lib.Seq.{take-at, length-take-le}
 use lib.ListN.{length}
 use borrow.Author.Needs.{needs}
-use Rattle.row_code.proofs.Rows.{factor-low, row-length, scaled-is}
+use Rattle.residue.specs.Chosen.{chosen}
+use Rattle.residue.specs.ResidueLaws.{is-low}
+use Rattle.row_code.proofs.Rows.{row-length, scaled-is}
 use Rattle.row_code.proofs.scaled_row.Statement.{statement}
 use Rattle.row_code.proofs.scaled_row.Tie as tie
 
@@ -18,7 +20,7 @@ slice-aggregate-scale c = sym (length-take-le _ _ (c .before .before .before .pr
 scale-requires : tie.Need-scale-requires
 scale-requires c κs =
     let s = c .before .before .before in
-    (factor-low (s .args .field) _ (c .before .factor .ensures), s .pre .0, length-take-le _ _ (s .pre .1))
+    (is-low (chosen (s .args .field)) _ (c .before .factor .ensures), s .pre .0, length-take-le _ _ (s .pre .1))
 
 returns : tie.Need-returns
 returns c =

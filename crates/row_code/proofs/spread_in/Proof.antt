@@ -11,13 +11,13 @@ use Rattle.residue.specs.Chosen.{chosen}
 use Rattle.residue.specs.Scale.{scale}
 use Rattle.code.specs.Steps.{times}
 use Rattle.row_code.proofs.Rows.{ScaledTo, scaled-none, scaled-length, scaled-end, scaled-part, blocks, length-blocks, block-at}
-use Rattle.code.specs.Settling.{share, unit}
-use Rattle.code.specs.Spreads.{next-within}
+use Rattle.residue.specs.ScaleLaws.{share, scale-unit}
+use Rattle.code.specs.SpreadLaws.{next-within}
 use Rattle.row_code.proofs.spread_in.Statement.{statement}
 use Rattle.row_code.proofs.spread_in.Tie as tie
 
 abbrev Inv-loop : tie.InvT-loop
-Inv-loop m row out₀ field c i₀ b₀ out i b = (i ≤ length m) × (b ≡ i * length row) × (length out ≡ length m * length row) × ScaledTo (chosen field) (el (chosen field) (scale field)) (share field) (unit field) (blocks (chosen field) m row) out₀ b out
+Inv-loop m row out₀ field c i₀ b₀ out i b = (i ≤ length m) × (b ≡ i * length row) × (length out ≡ length m * length row) × ScaledTo (chosen field) (el (chosen field) (scale field)) (share field) (scale-unit field) (blocks (chosen field) m row) out₀ b out
 
 abbrev μ-loop : tie.MeasureT-loop
 μ-loop m row out₀ field c i₀ b₀ out i b = length m - i
@@ -72,9 +72,9 @@ loop-again c =
     let q = c .before .before .scale-loose in
     let sized = q .kept .1 .1 .0 ∙ length-take-le (e - l .b) (drop (l .b) (l .out)) (omega (arith, length-drop (l .b) (l .out))) in
     let is = ap (λ x. times 𝓕 (el 𝓕 x) (elements 𝓕 row)) (c .before .before .before .before .new .ensures) ∙ block-at 𝓕 (a .m .now) row (l .i) (l .b) e (omega arith) (l .inv .1) refl in
-    let p = scaled-part 𝓕 (el 𝓕 (scale f)) (share f) (unit f) (blocks 𝓕 (a .m .now) row) (a .out .now) n (l .inv .3) e _ (omega arith) (omega (arith, s .pre .size)) sized
+    let p = scaled-part 𝓕 (el 𝓕 (scale f)) (share f) (scale-unit f) (blocks 𝓕 (a .m .now) row) (a .out .now) n (l .inv .3) e _ (omega arith) (omega (arith, s .pre .size)) sized
     (record { loose = q .ensures .loose; stands = q .ensures .stands ∙ is }) in
-    (omega arith, omega (arith, suc-mul (l .i) (length row), ap (λ k. k * length row) (add-one (l .i))), scaled-length 𝓕 (el 𝓕 (scale f)) (share f) (unit f) (blocks 𝓕 (a .m .now) row) (a .out .now) n p ∙ s .pre .size, p)
+    (omega arith, omega (arith, suc-mul (l .i) (length row), ap (λ k. k * length row) (add-one (l .i))), scaled-length 𝓕 (el 𝓕 (scale f)) (share f) (scale-unit f) (blocks 𝓕 (a .m .now) row) (a .out .now) n p ∙ s .pre .size, p)
 
 same-length : tie.Need-same-length Inv-loop μ-loop
 same-length c = let l = c .before .loop in l .inv .2 ∙ sym (c .before .before .before .before .before .pre .size)
@@ -86,7 +86,7 @@ returns c =
     let a = s .args in
     let f = a .field in
     let e : l .i ≡ length (a .m .now) = omega arith in
-    scaled-end (chosen f) (el (chosen f) (scale f)) (share f) (unit f) _ (a .out .now) (length-blocks (chosen f) (a .m .now) (a .row .now) ∙ sym (s .pre .size)) (l .inv .3)
+    scaled-end (chosen f) (el (chosen f) (scale f)) (share f) (scale-unit f) _ (a .out .now) (length-blocks (chosen f) (a .m .now) (a .row .now) ∙ sym (s .pre .size)) (l .inv .3)
     (omega (arith, l .inv .1, s .pre .size, ap (λ k. k * length (a .row .now)) e))
 
 pub spread-in-spec : {M : Type 1} → statement M

@@ -4,22 +4,23 @@ use native.Mathlib.Omega.{arith}
 use lib.ListN.{length}
 use Rattle.algebra.specs.Filling.{Filled, filled-none, filled-end, filled-length}
 use Rattle.algebra.specs.Parts.{filled-part}
+use Rattle.residue.specs.Elements.{elem}
 use Rattle.residue.specs.Chosen.{chosen}
-use Rattle.base_spread.specs.Steps.{blocksOf}
-use Rattle.base_spread.proofs.Spreading.{Reached, reached-none, reached-next, reached-end, some, in-message, in-blocks, block-lent, block-part, length-blocks}
+use Rattle.base_spread.specs.Steps.{blocksBy}
+use Rattle.base_spread.proofs.Spreading.{Reached, reached-none, reached-next, reached-end, some, in-message, in-blocks, block-lent, block-part-by, length-blocks-by}
 use Rattle.base_spread.proofs.spread.spread_blocks.Statement.{statement}
 use Rattle.base_spread.proofs.spread.spread_blocks.Tie as tie
 
 abbrev Inv-loop : tie.InvT-loop
-Inv-loop k n g message out₀ field i₀ b₀ out i b =
-    Reached k n (length message / k) i b × (length out ≡ n * (length message / k)) × Filled b (blocksOf (chosen field) k n g message) out₀ out
+Inv-loop k n g message out₀ f field i₀ b₀ out i b =
+    Reached k n (length message / k) i b × (length out ≡ n * (length message / k)) × Filled b (blocksBy (chosen field) (elem (chosen field) f) k n g message) out₀ out
 
 abbrev μ-loop : tie.MeasureT-loop
-μ-loop k n g message out₀ field i₀ b₀ out i b = length message - i
+μ-loop k n g message out₀ f field i₀ b₀ out i b = length message - i
 
 loop-holds : tie.Need-loop-holds Inv-loop μ-loop
 loop-holds c =
-    let s = c .before .before .before in (reached-none _ _ _ _ _ (omega arith) (omega arith), s .pre .size, filled-none _ _)
+    let s = c .before .before .before in (reached-none _ _ _ _ _ (omega arith) (omega arith), s .pre .0 .size, filled-none _ _)
 
 add-e : tie.Need-add-e Inv-loop μ-loop
 add-e c =
@@ -27,73 +28,73 @@ add-e c =
     let a = s .args in
     let 𝓕 = chosen (a .field) in
     let l = c .before .loop in
-    let w = in-message 𝓕 (a .k) (a .n) (a .g .now) (a .message .now) (a .out .now) (s .pre) (l .inv .0) (omega arith) in
+    let w = in-message 𝓕 (a .k) (a .n) (a .g .now) (a .message .now) (a .out .now) (s .pre .0) (l .inv .0) (omega arith) in
     omega arith
 
-add-f : tie.Need-add-f Inv-loop μ-loop
-add-f c =
+add-l : tie.Need-add-l Inv-loop μ-loop
+add-l c =
     let s = c .before .before .before .before .before in
     let a = s .args in
     let 𝓕 = chosen (a .field) in
     let l = c .before .loop in
-    let w = in-blocks 𝓕 (a .k) (a .n) (a .g .now) (a .message .now) (a .out .now) (s .pre) (l .inv .0) (omega arith) in
+    let w = in-blocks 𝓕 (a .k) (a .n) (a .g .now) (a .message .now) (a .out .now) (s .pre .0) (l .inv .0) (omega arith) in
     let e = l .inv .1 in
     omega arith
 
-mul-base-block : tie.Need-mul-base-block Inv-loop μ-loop
-mul-base-block c =
+mul-scaled-block : tie.Need-mul-scaled-block Inv-loop μ-loop
+mul-scaled-block c =
     let s = c .before .before .before .before .before in
     let a = s .args in
     let 𝓕 = chosen (a .field) in
     let l = c .before .loop in
-    let w = in-message 𝓕 (a .k) (a .n) (a .g .now) (a .message .now) (a .out .now) (s .pre) (l .inv .0) (omega arith) in
+    let w = in-message 𝓕 (a .k) (a .n) (a .g .now) (a .message .now) (a .out .now) (s .pre .0) (l .inv .0) (omega arith) in
     omega arith
 
-sub-base-block : tie.Need-sub-base-block Inv-loop μ-loop
-sub-base-block c = omega arith
+sub-scaled-block : tie.Need-sub-scaled-block Inv-loop μ-loop
+sub-scaled-block c = omega arith
 
-part-base-block-start : tie.Need-part-base-block-start Inv-loop μ-loop
-part-base-block-start c = omega arith
+part-scaled-block-start : tie.Need-part-scaled-block-start Inv-loop μ-loop
+part-scaled-block-start c = omega arith
 
-part-base-block-end : tie.Need-part-base-block-end Inv-loop μ-loop
-part-base-block-end c =
+part-scaled-block-end : tie.Need-part-scaled-block-end Inv-loop μ-loop
+part-scaled-block-end c =
     let s = c .before .before .before .before .before in
     let a = s .args in
     let 𝓕 = chosen (a .field) in
     let l = c .before .loop in
-    in-message 𝓕 (a .k) (a .n) (a .g .now) (a .message .now) (a .out .now) (s .pre) (l .inv .0) (omega arith)
+    in-message 𝓕 (a .k) (a .n) (a .g .now) (a .message .now) (a .out .now) (s .pre .0) (l .inv .0) (omega arith)
 
-mul-base-block-2 : tie.Need-mul-base-block-2 Inv-loop μ-loop
-mul-base-block-2 c =
+mul-scaled-block-2 : tie.Need-mul-scaled-block-2 Inv-loop μ-loop
+mul-scaled-block-2 c =
     let s = c .before .before .before .before .before .before in
     let a = s .args in
     let 𝓕 = chosen (a .field) in
     let l = c .before .before .loop in
-    let w = in-blocks 𝓕 (a .k) (a .n) (a .g .now) (a .message .now) (a .out .now) (s .pre) (l .inv .0) (omega arith) in
+    let w = in-blocks 𝓕 (a .k) (a .n) (a .g .now) (a .message .now) (a .out .now) (s .pre .0) (l .inv .0) (omega arith) in
     let e = l .inv .1 in
     omega arith
 
-sub-base-block-2 : tie.Need-sub-base-block-2 Inv-loop μ-loop
-sub-base-block-2 c = omega arith
+sub-scaled-block-2 : tie.Need-sub-scaled-block-2 Inv-loop μ-loop
+sub-scaled-block-2 c = omega arith
 
-part-base-block-start-2 : tie.Need-part-base-block-start-2 Inv-loop μ-loop
-part-base-block-start-2 c = omega arith
+part-scaled-block-start-2 : tie.Need-part-scaled-block-start-2 Inv-loop μ-loop
+part-scaled-block-start-2 c = omega arith
 
-part-base-block-end-2 : tie.Need-part-base-block-end-2 Inv-loop μ-loop
-part-base-block-end-2 c =
+part-scaled-block-end-2 : tie.Need-part-scaled-block-end-2 Inv-loop μ-loop
+part-scaled-block-end-2 c =
     let s = c .before .before .before .before .before .before in
     let a = s .args in
     let 𝓕 = chosen (a .field) in
     let l = c .before .before .loop in
-    omega (arith, in-blocks 𝓕 (a .k) (a .n) (a .g .now) (a .message .now) (a .out .now) (s .pre) (l .inv .0) (omega arith), l .inv .1)
+    omega (arith, in-blocks 𝓕 (a .k) (a .n) (a .g .now) (a .message .now) (a .out .now) (s .pre .0) (l .inv .0) (omega arith), l .inv .1)
 
-base-block-requires : tie.Need-base-block-requires Inv-loop μ-loop
-base-block-requires c κs =
+scaled-block-requires : tie.Need-scaled-block-requires Inv-loop μ-loop
+scaled-block-requires c κs =
     let s = c .before .before .before .before .before .before .before in
     let a = s .args in
     let 𝓕 = chosen (a .field) in
     let l = c .before .before .before .loop in
-    block-lent 𝓕 (a .k) (a .n) (a .g .now) (a .message .now) (a .out .now) (s .pre) (l .inv .0) (omega arith) (l .out) (l .inv .1)
+    (block-lent 𝓕 (a .k) (a .n) (a .g .now) (a .message .now) (a .out .now) (s .pre .0) (l .inv .0) (omega arith) (l .out) (l .inv .1), s .pre .1)
 
 loop-less : tie.Need-loop-less Inv-loop μ-loop
 loop-less c =
@@ -101,7 +102,7 @@ loop-less c =
     let a = s .args in
     let 𝓕 = chosen (a .field) in
     let l = c .before .before .before .before .before .before .loop in
-    omega (arith, some 𝓕 (a .k) (a .n) (a .g .now) (a .message .now) (a .out .now) (s .pre))
+    omega (arith, some 𝓕 (a .k) (a .n) (a .g .now) (a .message .now) (a .out .now) (s .pre .0))
 
 loop-again : tie.Need-loop-again Inv-loop μ-loop
 loop-again c =
@@ -109,16 +110,16 @@ loop-again c =
     let a = s .args in
     let 𝓕 = chosen (a .field) in
     let l = c .before .before .before .before .before .before .loop in
-    let w = in-blocks 𝓕 (a .k) (a .n) (a .g .now) (a .message .now) (a .out .now) (s .pre) (l .inv .0) (omega arith) in
-    let e = s .pre .size in
+    let w = in-blocks 𝓕 (a .k) (a .n) (a .g .now) (a .message .now) (a .out .now) (s .pre .0) (l .inv .0) (omega arith) in
+    let e = s .pre .0 .size in
     let p =
-    filled-part (l .b + a .n) 0 (c .before .before .base-block .last .1 .1 .1 .0) (l .inv .2) (omega arith) (omega arith) (length-blocks 𝓕 (a .k) (a .n) (a .g .now) (a .message .now) (a .out .now) (s .pre) ∙ sym e)
-    (block-part 𝓕 (a .k) (a .n) (a .g .now) (a .message .now) (a .out .now) (s .pre) (l .inv .0) (omega arith) (c .before .before .base-block .ensures)) in
-    (reached-next 𝓕 (a .k) (a .n) (a .g .now) (a .message .now) (a .out .now) (s .pre) (l .inv .0) (omega arith), filled-length p ∙ e, p)
+    filled-part (l .b + a .n) 0 (c .before .before .scaled-block .last .1 .1 .1 .0) (l .inv .2) (omega arith) (omega arith) (length-blocks-by 𝓕 (a .k) (a .n) (a .g .now) (a .message .now) (a .out .now) (s .pre .0) (elem 𝓕 (a .f)) ∙ sym e)
+    (block-part-by 𝓕 (a .k) (a .n) (a .g .now) (a .message .now) (a .out .now) (s .pre .0) (l .inv .0) (omega arith) (elem 𝓕 (a .f)) (c .before .before .scaled-block .ensures)) in
+    (reached-next 𝓕 (a .k) (a .n) (a .g .now) (a .message .now) (a .out .now) (s .pre .0) (l .inv .0) (omega arith), filled-length p ∙ e, p)
 
 same-length : tie.Need-same-length Inv-loop μ-loop
 same-length c =
-    c .before .loop .inv .1 ∙ sym (c .before .before .before .before .before .pre .size)
+    c .before .loop .inv .1 ∙ sym (c .before .before .before .before .before .pre .0 .size)
 
 returns : tie.Need-returns Inv-loop μ-loop
 returns c =
@@ -126,7 +127,7 @@ returns c =
     let a = s .args in
     let 𝓕 = chosen (a .field) in
     let l = c .before .loop in
-    filled-end (omega (arith, reached-end 𝓕 (a .k) (a .n) (a .g .now) (a .message .now) (a .out .now) (s .pre) (l .inv .0) (omega arith), s .pre .size)) (length-blocks 𝓕 (a .k) (a .n) (a .g .now) (a .message .now) (a .out .now) (s .pre) ∙ sym (s .pre .size)) (l .inv .2)
+    filled-end (omega (arith, reached-end 𝓕 (a .k) (a .n) (a .g .now) (a .message .now) (a .out .now) (s .pre .0) (l .inv .0) (omega arith), s .pre .0 .size)) (length-blocks-by 𝓕 (a .k) (a .n) (a .g .now) (a .message .now) (a .out .now) (s .pre .0) (elem 𝓕 (a .f)) ∙ sym (s .pre .0 .size)) (l .inv .2)
 
 pub spread-blocks-spec : {M : Type 1} → statement M
 spread-blocks-spec =
@@ -136,16 +137,16 @@ spread-blocks-spec =
     μ-loop
     loop-holds
     add-e
-    add-f
-    mul-base-block
-    sub-base-block
-    part-base-block-start
-    part-base-block-end
-    mul-base-block-2
-    sub-base-block-2
-    part-base-block-start-2
-    part-base-block-end-2
-    base-block-requires
+    add-l
+    mul-scaled-block
+    sub-scaled-block
+    part-scaled-block-start
+    part-scaled-block-end
+    mul-scaled-block-2
+    sub-scaled-block-2
+    part-scaled-block-start-2
+    part-scaled-block-end-2
+    scaled-block-requires
     loop-less
     loop-again
     same-length

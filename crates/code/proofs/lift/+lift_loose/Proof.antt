@@ -11,9 +11,9 @@ use borrow.Fn.PlainCycle.{Measures, is, falls, and}
 use Rattle.code.proofs.lift.lift_loose.Reads as lift-loose
 use Rattle.code.proofs.lift.lift_loose.Kinds as lift-loose-kinds
 use Rattle.code.proofs.lift.+lift_loose.Lts-lift_loose as lts
-use Rattle.code.proofs.lift.cross.Reads as cross-reads
+use Rattle.passes.proofs.cross.Reads as cross-reads
 use Rattle.code.proofs.lift.half_of.Reads as half-of-reads
-use Rattle.code.proofs.lift.low_levels.Reads as low-levels-reads
+use Rattle.passes.proofs.low_levels.Reads as low-levels-reads
 use Rattle.code.proofs.lift.+lift_loose.{statement}
 use Rattle.code.proofs.lift.+lift_loose.Tie.{close}
 

@@ -4,7 +4,7 @@ use borrow.Author.Needs.{needs}
 use Rattle.residue.specs.declared.Field.the-variants.{First, Second}
 use Rattle.residue.specs.Chosen.{chosen}
 use Rattle.code.proofs.Levels.{lift-none, loosened}
-use Rattle.code.specs.Settling.{settle-asks-of, settled-first, settled-second}
+use Rattle.code.proofs.Settling.{settle-asks-of, settled-first, settled-second}
 use Rattle.code.proofs.lift.lift.Statement.{statement}
 use Rattle.code.proofs.lift.lift.Tie as tie
 

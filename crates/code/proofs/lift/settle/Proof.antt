@@ -2,10 +2,11 @@ use lib.ListN.{length}
 use Prim.Native.Nat.{_-_, _≤_}
 use mathlib.Core.Path.{_≡_, refl, sym, ap, _∙_}
 use native.Mathlib.Omega.{arith}
+use Rattle.algebra.specs.Vector.{multiple-one}
 use Rattle.algebra.specs.WordLists.{elements, toWords}
 use Rattle.residue.specs.Elements.{K, word}
 use Rattle.residue.specs.Chosen.{chosen}
-use Rattle.code.specs.Loose.{multiple-one, SettledTo, settle-none, settle-length, settle-asks, settle-turn, settle-end}
+use Rattle.code.proofs.Settling.{SettledTo, settle-none, settle-length, settle-asks, settle-turn, settle-end}
 use Rattle.code.proofs.lift.settle.Statement.{statement}
 use Rattle.code.proofs.lift.settle.Tie as tie
 

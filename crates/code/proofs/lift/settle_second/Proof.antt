@@ -5,9 +5,9 @@ use native.Mathlib.Omega.{arith}
 use borrow.Author.Needs.{needs}
 use Rattle.algebra.specs.Words.{𝔽₂}
 use Rattle.residue.specs.declared.Field.the-variants.{Second}
+use Rattle.residue.specs.ResidueLaws.{is-low}
 use Rattle.residue.specs.Scale.{scalePower}
-use Rattle.code.specs.Loose.{SettledTo, settle-none, settle-length, settle-asks, settle-turn, settle-end}
-use Rattle.code.specs.Settling.{Factor, power-low, factor}
+use Rattle.code.proofs.Settling.{SettledTo, settle-none, settle-length, settle-asks, settle-turn, settle-end, Factor, factor}
 use Rattle.code.proofs.lift.settle_second.Statement.{statement}
 use Rattle.code.proofs.lift.settle_second.Tie as tie
 
@@ -24,7 +24,7 @@ second-scale-requires-2 : tie.Need-second-scale-requires-2 Inv-loop μ-loop
 second-scale-requires-2 c κs = search needs
 
 times-requires : tie.Need-times-requires Inv-loop μ-loop
-times-requires c κs = (power-low _ (c .second-scale2 .ensures), power-low _ (c .before .second-scale .ensures))
+times-requires c κs = (is-low 𝔽₂ _ (c .second-scale2 .ensures), is-low 𝔽₂ _ (c .before .second-scale .ensures))
 
 loop-holds : tie.Need-loop-holds Inv-loop μ-loop
 loop-holds c =

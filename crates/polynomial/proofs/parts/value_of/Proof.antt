@@ -6,7 +6,7 @@ use borrow.Author.Needs.{needs}
 use Rattle.residue.specs.Elements.{sumProduct}
 use Rattle.residue.specs.Chosen.{chosen}
 use Rattle.residue.specs.ResidueLaws.{is-low}
-use Rattle.polynomial.specs.EvaluationLaws.{lower, length-lower, left-input, right-input}
+use Rattle.polynomial.specs.LentLaws.{lower, length-lower, left-input, right-input}
 use Rattle.polynomial.proofs.Values.{lent, summed, monomials-lower, joined}
 use Rattle.polynomial.proofs.parts.value_of.Statement.{statement}
 use Rattle.polynomial.proofs.parts.value_of.Tie as tie

@@ -1,5 +1,5 @@
 use mathlib.Core.Path.{sym, ap, _∙_}
-use Rattle.clearance.specs.Reading.{readingOutcome}
+use Rattle.read_clearance.specs.Reading.{readingOutcome}
 use Rattle.reply.specs.Replies.{readingReply}
 use borrow.Author.Needs.{needs}
 use Rattle.reply.proofs.reading.told.Statement.{statement}

@@ -1,7 +1,7 @@
 use native.Mathlib.Omega.{arith}
 use lib.ListN.{length-take}
 use Rattle.residue.specs.Chosen.{chosen}
-use Rattle.polynomial.specs.EvaluationLaws.{left-input, right-input}
+use Rattle.polynomial.specs.LentLaws.{left-input, right-input}
 use Rattle.steps.proofs.Sends.{half-values}
 use borrow.Author.Needs.{needs}
 use Rattle.steps.proofs.send.halves.Statement.{statement}

@@ -1,5 +1,5 @@
 use mathlib.Core.Path.{sym, ap, _∙_}
-use Rattle.polynomial.specs.Evaluation.{evaluationOutcome as evaluated}
+use Rattle.evaluate.specs.Evaluation.{evaluationOutcome as evaluated}
 use Rattle.reply.specs.Replies.{reply, given}
 use borrow.Author.Needs.{needs}
 use Rattle.tvarchula.proofs.ground.tv_evaluate.Statement.{statement}

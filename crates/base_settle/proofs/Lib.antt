@@ -1,0 +1,3 @@
+-- Lemmas of the proofs.
+--     Deciding    what trying a block answered settles it
+pub mod Deciding

@@ -1,3 +1,0 @@
--- Lemmas of decoding.
---     Deciding     found, not-found: what trying a block answered settles it
-pub mod Deciding

@@ -1,0 +1,3 @@
+-- The job of evaluation.
+--     Evaluation    judgeEvaluating, evaluation
+pub mod Evaluation

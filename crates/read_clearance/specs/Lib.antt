@@ -1,0 +1,3 @@
+-- The job of reading a word as a clearance.
+--     Reading         what it gives
+pub mod Reading
