@@ -162,12 +162,6 @@ module _ (𝓕 : PrimeField) where
   unfolding allElements
   length-all = length-row modulus el
 
-  -- of the lists of d challenges there are p^d; a list is among them exactly when its length is d, and once
-  pub length-challenges : (d : ℕ) → length (challenges 𝓕 d) ≡ modulus ^ d
-  length-challenges d = length-lists (allElements 𝓕) d ∙ ap (λ p. p ^ d) length-all
-
+  -- a list is among the lists of d challenges exactly when its length is d
   pub every-challenges : (d : ℕ) (r : List R) → List·Mem r (challenges 𝓕 d) ↔ (length r ≡ d)
   every-challenges d r = (sized-lists (allElements 𝓕) d r, λ e. every-list (allElements 𝓕) 𝟘 d r e (λ j h. all-there (getD r j 𝟘)))
-
-  pub once-challenges : (d : ℕ) → List·Nodup (challenges 𝓕 d)
-  once-challenges = once-lists (allElements 𝓕) all-once

@@ -1,7 +1,7 @@
 -- Which part p^d - (p-1)^d is of p^d: at most d in p. Assumes nothing.
 use mathlib.Core.Path.{_≡_}
 use Prim.Native.Nat.{ℕ, zero, suc, _+_, _*_, _-_, _^_, _≤_}
-use native.Mathlib.Nat.{zero-mul, mul-zero, suc-mul, mul-comm, mul-add, mul-left-comm, mul-le-mul-left, pow-zero, pow-succ'}
+use native.Mathlib.Nat.{mul-zero, suc-mul, mul-comm, mul-add, mul-left-comm, mul-le-mul-left, pow-zero, pow-succ'}
 use native.Mathlib.Omega.{arith}
 
 -- Bernoulli's inequality: (1 - 1/p)^d is at least 1 - d/p, here for p = q + 1

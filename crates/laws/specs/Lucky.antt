@@ -3,9 +3,8 @@
 --     lucky-law, lucky-law-none, lucky-law-part, lucky-sixteen
 -- Assumes nothing.
 use mathlib.Core.Path.{_≡_, refl, sym, ap, subst, _∙_}
-use mathlib.Core.List.{List, [], _∷_, filter-congr, List·Mem}
+use mathlib.Core.List.{List, filter-congr}
 use Prim.Native.Nat.{ℕ, zero, suc, _+_, _*_, _-_, _^_, _≤_}
-use native.Mathlib.Nat.{pow-zero}
 use native.Mathlib.Decide.{map-dec}
 use native.Mathlib.Omega.{arith}
 use lib.ListN.{length, getD}

@@ -2,9 +2,9 @@
 -- and of the p^d decodings at most p^d - (p-1)^d give a message.
 --     folds-down-calls, lucky-calls
 -- Assumes nothing.
-use mathlib.Core.Path.{_≡_, refl, sym, ap, ap₂, subst, _∙_}
+use mathlib.Core.Path.{_≡_, sym, ap, subst, _∙_}
 use mathlib.Core.Logic.{_↔_}
-use mathlib.Core.List.{List, [], _∷_, filter-congr, List·Mem}
+use mathlib.Core.List.{List, [], _∷_, filter-congr}
 use Prim.Native.Nat.{ℕ, zero, suc, _-_, _^_, _<_, _≤_}
 use native.Mathlib.Nat.{mul-zero}
 use native.Mathlib.Omega.{arith}

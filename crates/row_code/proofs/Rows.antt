@@ -16,19 +16,18 @@ use Rattle.algebra.specs.Parts.{filled-part}
 use Rattle.algebra.specs.Sums.{prod}
 use Rattle.algebra.specs.UnitLaws.{done, undone, undone-word, cancel, cancel-power, power-next}
 use Rattle.algebra.specs.Vector.{Vectors, vectors, getD-multiple}
-use Rattle.algebra.specs.Words.{Words, PrimeField, 𝔽₁, 𝔽₂}
+use Rattle.algebra.specs.Words.{Words, PrimeField}
 use Rattle.algebra.specs.WordLaws.{same-word}
 use Rattle.algebra.specs.WordLists.{Low, low-none, low-tail, low-cons, low-append, low-words, elements, elements-set, elements-put, toWords, elements-words, length-elements, length-words, getD-elements}
 use Rattle.foldable.specs.Lift.{lift, spread, length-spread}
 use Rattle.foldable.specs.Sweep.{spread-multiple, lift-multiple}
 use Rattle.parameters.specs.Lent.{lent}
 use Rattle.residue.specs.declared.Field.{Field as Choice}
-use Rattle.residue.specs.declared.Field.the-variants.{First, Second}
 use Rattle.residue.specs.Elements.{F, K, el, word, product}
 use Rattle.residue.specs.Chosen.{chosen}
 use Rattle.residue.specs.ResidueLaws.{stands}
 use Rattle.residue.specs.Scale.{scale, scalePower}
-use Rattle.residue.specs.ScaleLaws.{first-power, next-power}
+use Rattle.residue.specs.ScaleLaws.{next-power}
 use Rattle.code.specs.Encoding.{EncodeInput}
 use Rattle.passes.specs.Steps.{Scaled, LooseInput}
 use Rattle.code.specs.Steps.{times, SpreadInput}

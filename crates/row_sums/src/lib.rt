@@ -1,4 +1,4 @@
-// Sums of two or four rows of words, each times a factor. Four are two and then two more: a loop of four products a word is no loop of vectors.
+// Sums of two or four rows of words, each times a factor. Four are two and then two more: of four products a word over the second field the compiler makes no vectors.
 ghost use mathlib.Core.Path.{_≡_};
 ghost use mathlib.Core.List.{map};
 ghost use Prim.Native.Nat.{_<_};

@@ -9,7 +9,7 @@ use borrow.Author.Tests.{eq-eqb, eqb-true}
 use Rattle.algebra.specs.Words.{PrimeField}
 use Rattle.algebra.specs.Tests.{and-both}
 use Rattle.job.specs.Outcome.{done}
-use Rattle.job.specs.OutcomeLaws.{pass, holds, pass-demand, require-done, demand-done, held}
+use Rattle.job.specs.OutcomeLaws.{pass, holds, pass-demand, require-done, demand-done}
 use Rattle.job.specs.Sizes.{k0Ok}
 use Rattle.words.specs.Scans.{allBelow}
 use Rattle.table_length.specs.Depth.{isPower, tableOk}

@@ -1,7 +1,6 @@
-use mathlib.Core.Path.{sym, ap}
+use mathlib.Core.Path.{sym}
 use lib.ListN.{length}
 use lib.Seq.{length-take-le}
-use native.Mathlib.Omega.{arith}
 use Rattle.residue.specs.Chosen.{chosen}
 use Rattle.base_spread.proofs.Scaling.{few, prefix-room, front-length, scaled-lent, scaled-is}
 use borrow.Author.Needs.{needs}
