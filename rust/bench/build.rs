@@ -59,7 +59,7 @@ fn link(folder: &Path, archive: &str) {
     let file = folder.join(format!("lib{archive}.a"));
     if !file.is_file() {
         println!(
-            "cargo:warning=there is no {}: make it with `rt staticlib {archive}`",
+            "cargo:warning=there is no {}: make it with `make lib{archive}.a`",
             file.display()
         );
     }

@@ -43,7 +43,7 @@ fn missing(folders: &[PathBuf]) {
         println!("cargo:rerun-if-changed={}", folder.join(ARCHIVE).display());
     }
     println!(
-        "cargo:warning=there is no {ARCHIVE}, so no program links: make it with `rt staticlib tvarchula` \
+        "cargo:warning=there is no {ARCHIVE}, so no program links: make it with `make libtvarchula.a` \
          in the repository, or name its folder in {OVERRIDE} (an absolute path)"
     );
 }

@@ -8,7 +8,7 @@ use native.Mathlib.Omega.{arith}
 use lib.ListN.{length, get_or, take, drop, length-take, length-drop, length-map}
 use lib.Seq.{take_all}
 use Rattle.algebra.specs.Ring.{Ring}
-use Rattle.algebra.specs.Lists.{row, get_or_row}
+use Rattle.algebra.specs.Lists.{get_or_row}
 use Rattle.algebra.specs.Vector.{vectors, sum_assoc, sum_zeros, zeros_sum}
 use Rattle.algebra.specs.Matrix.{Wide, times, length_times}
 use Rattle.algebra.specs.Words.{PrimeField}

@@ -1,3 +1,3 @@
 -- One base message times the base matrix.
---     Blocks    blockOf: THE BLOCK of a base message; what it is made of
+--     Blocks    block_of: THE BLOCK of a base message; what it is made of
 pub mod Blocks

@@ -1,4 +1,6 @@
 // One base message times the base matrix: the sum of its words times the rows.
+#![tactic(auto)]
+
 ghost use Rattle.std.specs.Prelude.{◌≡◌, length};
 ghost use Rattle.residue.specs.Chosen.{chosen};
 ghost use Rattle.base_block.specs.Blocks.{BlockLent, block_of};

@@ -1,6 +1,6 @@
 -- Base messages of one word: the matrix is a factor of all words. Assumes nothing.
 use mathlib.Core.Path.{◌≡◌, refl, sym, ap, ap₂, ◌∙◌}
-use mathlib.Core.List.{List, [], ◌∷◌, ◌++◌, map, flat_map}
+use mathlib.Core.List.{List, [], ◌∷◌, ◌++◌, flat_map}
 use Prim.Native.Nat.{ℕ, suc, ◌*◌, ◌/◌}
 use native.Mathlib.Nat.{one-mul}
 use native.Mathlib.Omega.{arith}

@@ -1,4 +1,6 @@
 // What the first k words of base blocks solve to, with a base matrix of k rows.
+#![tactic(auto)]
+
 ghost use Rattle.std.specs.Prelude.{◌≡◌, ◌/◌, length};
 ghost use Rattle.residue.specs.Chosen.{chosen};
 ghost use Rattle.base_columns.specs.Steps.{BlocksLent, solved_blocks};

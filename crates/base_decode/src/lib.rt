@@ -1,4 +1,6 @@
 // Whether a block is a codeword of a code of k base rows, and its message.
+#![tactic(auto)]
+
 ghost use Rattle.std.specs.Prelude.{length};
 ghost use Rattle.residue.specs.Chosen.{chosen};
 ghost use Rattle.base_halves.specs.Comparing.{Compared};

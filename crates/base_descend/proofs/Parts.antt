@@ -21,6 +21,7 @@ use Rattle.parameters.specs.LentLaws.{level_within, length_diagonal}
 use Rattle.lines.specs.Behind.{FoldBehindLent, folded_behind}
 use Rattle.lines.specs.Folds.{fold_words}
 use Rattle.lines.proofs.Straight.{length_fold_words}
+use Rattle.base_descend.proofs.Offsets.{off_at, off_is}
 use Rattle.base_descend.specs.RowDescending.{block_above, folded_above, FoldBlockInput}
 
 module _ (𝓕 : PrimeField) where
@@ -41,13 +42,13 @@ module _ (𝓕 : PrimeField) where
       n = length g * m
 
       abbrev off : ℕ
-      off = length g * (m - 1)
+      off = off_at (length g) m
 
       p : n ≡ block_size (length g) i
       p = ap (λ x. length g * x) e
 
       q : off ≡ diagonals_size (length g) i
-      q = ap (λ x. length g * (x - 1)) e
+      q = off_is (length g) i m e
 
       pub stop_within : off + n ≤ length t
       stop_within = omega (arith, p, q, level_within c i d below, 𝓘.coding.first)

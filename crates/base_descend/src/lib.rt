@@ -1,4 +1,6 @@
 // The block of a level as the fold of the block above it, in the opening that holds both, one behind the other. Base messages have 2^low words.
+#![tactic(auto)]
+
 ghost use Rattle.std.specs.Prelude.{◌≡◌, length};
 ghost use Rattle.residue.specs.Chosen.{chosen};
 ghost use Rattle.algebra.specs.Lists.{put};

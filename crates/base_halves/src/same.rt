@@ -12,7 +12,7 @@ use halves_step::peel;
 use residue::Field;
 
 // The words of a block of a level, and where the level's diagonal begins and ends.
-#[derive(Drop)]
+#[derive(Clone, Copy)]
 pub struct LevelPlace {
     pub size: usize,
     pub off: usize,

@@ -7,9 +7,7 @@ use native.Mathlib.Omega.{arith}
 use lib.ListN.{length, take, drop}
 use lib.Seq.{take_all}
 use Rattle.algebra.specs.Words.{PrimeField}
-use Rattle.algebra.specs.WordLists.{Low}
 use Rattle.job.specs.Limits.{block_size}
-use Rattle.parameters.specs.Lent.{Coding, codeword}
 use Rattle.base_spread.specs.LentRows.{codeword_rows}
 use Rattle.base_spread.specs.LentRowLaws.{first_coding, codeword_one}
 use Rattle.halves_step.specs.Steps.{CodeLent as OneLent, RightWritten as OneWritten}

@@ -38,6 +38,6 @@ module _ (𝓕 : PrimeField) where
     pub one : k ≡ 1 → r ≡ none_zero g
     pub more : (k ≡ 1 → ⊥) → (r ≡ false) ↔ Singular K k (first_columns 𝓕 k n g)
 
-  -- the same as one test, by the determinant (Laws: base-exactly, base-is)
+  -- the same as one test, by the determinant (Laws: base_exactly, base_is)
   unfoldable pub base_ok : ℕ → ℕ → List ℕ → Bool
   base_ok k n g = cond (eqb k 1) (none_zero g) (not (eqb (word (det K k (first_columns 𝓕 k n g))) 0))

@@ -1,4 +1,6 @@
 // The first k columns of a base matrix of k rows, for k = 1, 2 and 4: their inverse, what it solves, and whether a base matrix is legal.
+#![tactic(auto)]
+
 ghost use Rattle.std.specs.Prelude.{◌≡◌, ◌≤◌, length, take, get_or};
 ghost use Rattle.residue.specs.Chosen.{chosen};
 ghost use Rattle.cofactor.specs.Rows.{Lent};
@@ -10,7 +12,7 @@ pub mod adjugate;
 pub mod product;
 
 // The inverse, row i at the places from 4 i on; zeros where there is none.
-#[derive(Drop)]
+#[derive(Clone, Copy)]
 pub struct Inverted {
     pub singular: bool,
     pub m: [u32; 16],

@@ -1,4 +1,6 @@
 // Writing an opening over base messages of k = 2^low words: k rows of n words make the base matrix.
+#![tactic(auto)]
+
 ghost use Rattle.std.specs.Prelude.{length};
 ghost use Rattle.residue.specs.Chosen.{chosen};
 ghost use Rattle.base_rounds.specs.RowOpening.{WriteInput};

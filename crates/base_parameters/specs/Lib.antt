@@ -1,7 +1,7 @@
 -- The parameter record of base blocks of one, two or four words: its limits, the sizes that it gives, and what is judged of base matrix and diagonals.
 --     Parameters       judge_rows: THE REFUSALS 1, 2, 13, 3, 4, 5, 6 of a job with a base matrix, in their order
---     ParameterLaws    base-refused: 5 IS DUE EXACTLY WHERE THE FIRST COLUMNS HAVE NO INVERSE; what the tests say where they hold
---     NamedLaws        RowsNamed, rows-named: WHICH PLACE 4, 5 and 6 name; singular-named: of more rows than one 5 names the index 0; equal-in-level
+--     ParameterLaws    base_refused: 5 IS DUE EXACTLY WHERE THE FIRST COLUMNS HAVE NO INVERSE; what the tests say where they hold
+--     NamedLaws        RowsNamed: WHICH PLACE 4, 5 and 6 name (rows_named and singular_named, in proofs/NamedRows); equal_in_level
 --     OneRowBefore     limits, lengths and judging as they were for one base row
 --     OneRow           AT k0 = 1 all of these are those of one base row
 pub mod Parameters

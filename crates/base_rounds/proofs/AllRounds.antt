@@ -12,7 +12,7 @@ use Rattle.algebra.specs.Lists.{put}
 use Rattle.algebra.specs.Numerals.{num}
 use Rattle.algebra.specs.Order.{lt_or_ge}
 use Rattle.algebra.specs.Words.{PrimeField}
-use Rattle.algebra.specs.WordLists.{low_words, elements, to_words, elements_words, words_elements, elements_take, get_or_elements, length_words_lem, get_d_words}
+use Rattle.algebra.specs.WordLists.{low_words, elements, to_words, elements_words, words_elements, elements_take, get_or_elements, length_words_lem, get_or_words}
 use Rattle.basefold.specs.Layout.{block_at, final_at, opening_size}
 use Rattle.foldable.specs.Code.{encode}
 use Rattle.layout.specs.LayoutLaws.{block_end, block_within}
@@ -161,7 +161,7 @@ module _ (𝓕 : PrimeField) where
       sent_at j l =
           let X = num K j in
           let ly : length (take (suc (low + i)) zs) ≡ suc (low + i) = length-take (suc (low + i)) zs ∙ omega (arith, lz, below) in
-          get_d_words 𝓕 _ j
+          get_or_words 𝓕 _ j
           ∙ ap word
           (values_at (round_of 𝓕 (elem 𝓕 w) (elements 𝓕 (take (2 ^ suc (low + i)) s)) (elements 𝓕 (take (suc (low + i)) z))) j l
           ∙ (λ x. round_of 𝓕 (weight_is x) (above_is x) (elements_take 𝓕 (suc (low + i)) z x) X)

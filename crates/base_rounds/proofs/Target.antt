@@ -8,7 +8,7 @@ use lib.Pow.{pow-add}
 use lib.Seq.{get_or-take, get_or-drop}
 use Rattle.algebra.specs.Numerals.{num}
 use Rattle.algebra.specs.Words.{PrimeField}
-use Rattle.algebra.specs.WordLists.{elements, to_words, length_elements, length_words_lem, get_d_words}
+use Rattle.algebra.specs.WordLists.{elements, to_words, length_elements, length_words_lem, get_or_words}
 use Rattle.basefold.specs.Layout.{block_at, opening_size}
 use Rattle.basefold.specs.Written.{opening}
 use Rattle.basefold.specs.Descent.{legal_at, block_below, descend_encode}
@@ -74,7 +74,7 @@ module _ (𝓕 : PrimeField) where
 
     pub target_round : (i j : ℕ) → i < d → j < 3 → get_or target (3 * (d - suc i) + j) 0 ≡ word (h K low (elements 𝓕 m) (elements 𝓕 z) (elements 𝓕 r) (suc i) (num K j))
     target_round i j l u =
-        get_d_words 𝓕 O (3 * (d - suc i) + j)
+        get_or_words 𝓕 O (3 * (d - suc i) + j)
         ∙ ap word (ap (λ e. get_or O (3 * (e - suc i) + j) K.𝟘) (sym challenges_length) ∙ sent_is F low ms zs rs C i j (omega (arith, challenges_length)) u)
 
     pub target_block : (i j : ℕ) → i < d → j < n * 2 ^ i → get_or target (block_at n low d i + j) 0 ≡ get_or (to_words 𝓕 (encode F (lent_rows 𝓕 k n g t t') i (left i))) j 0
@@ -82,7 +82,7 @@ module _ (𝓕 : PrimeField) where
         let e = length rs in
         let at = block_at n low e i in
         let back : e - (e - i) ≡ i = omega (arith, challenges_length) in
-        get_d_words 𝓕 O (block_at n low d i + j)
+        get_or_words 𝓕 O (block_at n low d i + j)
         ∙ ap word
         (ap (λ x. get_or O (block_at n low x i + j) K.𝟘) (sym challenges_length)
         ∙ sym (get_or-drop at O j K.𝟘)
@@ -91,15 +91,15 @@ module _ (𝓕 : PrimeField) where
         (block_below F low C ms zs rs legal (length_rounds F low ms zs rs e) i (omega (arith, challenges_length))
         ∙ descend_encode F low C ms zs rs legal (rows_are 𝓕 low 𝓦.coding 𝓦.rows) (message_length ∙ sym (dim_is 𝓕 low 𝓦.coding 𝓦.rows e)) (e - i) (omega arith)
         ∙ ap (λ x. encode F C x (left x)) back))
-        ∙ sym (get_d_words 𝓕 _ j)
+        ∙ sym (get_or_words 𝓕 _ j)
 
     pub target_final : (j : ℕ) → j < 2 ^ low → get_or target (3 * d + j) 0 ≡ get_or (to_words 𝓕 (left 0)) j 0
     target_final j l =
         let e = length rs in
-        get_d_words 𝓕 O (3 * d + j)
+        get_or_words 𝓕 O (3 * d + j)
         ∙ ap word
         (ap (λ x. get_or O (3 * x + j) K.𝟘) (sym challenges_length)
         ∙ sym (get_or-drop (3 * e) O j K.𝟘)
         ∙ sym (get_or-take (2 ^ low) (drop (3 * e) O) j K.𝟘 l)
         ∙ ap (λ v. get_or v j K.𝟘) (carried_is F low ms zs rs C ∙ sym (folded_last K low ms zs rs)))
-        ∙ sym (get_d_words 𝓕 (left 0) j)
+        ∙ sym (get_or_words 𝓕 (left 0) j)

@@ -1,4 +1,6 @@
 // The rounds of an opening over base messages of k = 2^low words, from the top variable down to the lowest that is not inside a base message.
+#![tactic(auto)]
+
 ghost use Rattle.std.specs.Prelude.{◌≡◌, true, ◌+◌, ◌*◌, ◌^◌, ◌<◌, length, take};
 ghost use Rattle.residue.specs.Chosen.{chosen};
 ghost use Rattle.algebra.specs.Lists.{put};

@@ -14,7 +14,7 @@ use Rattle.algebra.specs.Flags.{passes, fails}
 use Rattle.algebra.specs.Lists.{row, length_row, row_ext, map_row}
 use Rattle.algebra.specs.Matrix.{times}
 use Rattle.algebra.specs.Words.{PrimeField}
-use Rattle.algebra.specs.WordLists.{Low, low_words, elements, to_words, length_elements, length_words_lem, get_or_elements, get_d_words, elements_words, elements_take, elements_drop}
+use Rattle.algebra.specs.WordLists.{Low, low_words, elements, to_words, length_elements, length_words_lem, get_or_elements, get_or_words, elements_words, elements_take, elements_drop}
 use Rattle.algebra.specs.Tests.{all_same, is_same}
 use Rattle.foldable.specs.Code.{Code, encode, generator, Legal}
 use Rattle.foldable.specs.Encode.{length_encode}
@@ -56,7 +56,7 @@ module _ (𝓕 : PrimeField) where
       let part : ℕ → List ℕ = λ i. take k (drop (k * i) m) in
       let u : ℕ → List Element = λ i. times K n (elements 𝓕 (part i)) (rows 𝓕 (length (part i)) n g) in
       let v : ℕ → Element = λ i. get_or (u i) j 𝟘 in
-      let same : column_words 𝓕 k n q j g m ≡ to_words 𝓕 (row q v) = row_ext q _ (λ i. word (v i)) (λ i h. get_d_words 𝓕 (u i) j) ∙ sym (map_row word q v) in
+      let same : column_words 𝓕 k n q j g m ≡ to_words 𝓕 (row q v) = row_ext q _ (λ i. word (v i)) (λ i h. get_or_words 𝓕 (u i) j) ∙ sym (map_row word q v) in
       rw same (low_words 𝓕 (row q v))
 
   -- column j of the codeword of a message m

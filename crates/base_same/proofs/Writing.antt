@@ -10,7 +10,7 @@ use lib.Seq.{paste, paste-zero, paste-suc, length-paste, take_at, take-take, tak
 use Rattle.algebra.specs.Lists.{length_row, get_or_row}
 use Rattle.algebra.specs.Matrix.{times}
 use Rattle.algebra.specs.Words.{PrimeField}
-use Rattle.algebra.specs.WordLists.{low_take, low_drop, low_words, elements, to_words, get_d_words, val_zero, modulus_pos}
+use Rattle.algebra.specs.WordLists.{low_take, low_drop, low_words, elements, to_words, get_or_words, val_zero, modulus_pos}
 use Rattle.residue.specs.Elements.{sum_product}
 use Rattle.cofactor.specs.Rows.{rows}
 use Rattle.cofactor.specs.RowLaws.{row_within}
@@ -45,7 +45,7 @@ module _ (𝓕 : PrimeField) where
 
     pub word_none : WordTo n j g m 0 0
     unfolding times
-    word_none = record { is = sym (get_d_words 𝓕 _ j ∙ ap word (get_or-replicate n j 𝟘 𝟘 𝓦.column) ∙ val_zero 𝓕 (modulus_pos 𝓕)) }
+    word_none = record { is = sym (get_or_words 𝓕 _ j ∙ ap word (get_or-replicate n j 𝟘 𝟘 𝓦.column) ∙ val_zero 𝓕 (modulus_pos 𝓕)) }
 
     module _ (b s p : ℕ) (h : b < length m) (at : p ≡ j + b * n) (w : WordTo n j g m b s) where
       sum : Summed 𝓕 b n g m (summed b n g m)

@@ -1,5 +1,7 @@
 // Whether a block is the codeword, of k base rows, of a message in front of the work buffer, whose first k columns it has. The columns of a codeword are
 // independent of each other, so each is encoded by itself, behind the message, which stays where it stands.
+#![tactic(auto)]
+
 ghost use Rattle.std.specs.Prelude.{◌≡◌, ◌*◌, ◌^◌, ◌<◌, take};
 ghost use Rattle.algebra.specs.Tests.{all_same};
 ghost use Rattle.foldable.specs.Every.{every};

@@ -1,4 +1,6 @@
 // A block for which no refusal before 8 is due: its message, or 8.
+#![tactic(auto)]
+
 ghost use Rattle.std.specs.Prelude.{◌≡◌, ◌*◌, ◌^◌, ◌≤◌, length, take, replicate};
 ghost use Rattle.residue.specs.Chosen.{chosen};
 ghost use Rattle.base_decode.specs.Decoding.{DecodeRows};

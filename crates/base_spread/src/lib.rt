@@ -1,4 +1,6 @@
 // Encoding with a base matrix of k rows: k words a base message, rows of n words.
+#![tactic(auto)]
+
 ghost use Rattle.std.specs.Prelude.{◌≡◌};
 ghost use Rattle.residue.specs.Chosen.{chosen};
 ghost use Rattle.base_spread.specs.LentRows.{codeword_rows};

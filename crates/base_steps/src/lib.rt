@@ -1,5 +1,7 @@
 // The steps of a writer of openings that know how many words a base message has: 2^low, in rows of n words. The round itself is that of `steps`,
 // over the low variables and the others alike.
+#![tactic(auto)]
+
 ghost use Rattle.std.specs.Prelude.{◌≡◌, ◌+◌, ◌^◌, ◌<◌, ◌≤◌, length, take};
 ghost use Rattle.residue.specs.Chosen.{chosen};
 ghost use Rattle.algebra.specs.Lists.{put};

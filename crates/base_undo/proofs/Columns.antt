@@ -14,7 +14,7 @@ use Rattle.algebra.specs.Words.{PrimeField}
 use Rattle.job.specs.LimitLaws.{power_most}
 use Rattle.job.specs.Limits.{max_message}
 use Rattle.inversion.specs.Inversion.{gap, gap_inverses}
-use Rattle.inversion.specs.InversionLaws.{length_rows, get_d_rows}
+use Rattle.inversion.specs.InversionLaws.{length_rows, get_or_rows}
 use Rattle.inversion.specs.Strides.{stride_next, stride_within}
 use Rattle.base_inverses.specs.Inverses.{inverse_word, InvertedTo, DiagonalsLent}
 use Rattle.base_undo.specs.Steps.{column_word, undone_words, RowsInput, ColumnsUndone}
@@ -102,7 +102,7 @@ module _ (𝓕 : PrimeField) where
           ∙ get_or-drop s w (2 ^ d + i) 0
           ∙ ap (λ x. get_or w x 0) p
           ∙ 𝓥.at a i (omega arith) h (omega arith)
-          ∙ sym (get_d_rows 𝓕 (2 ^ d - 1) f i (omega arith)))
+          ∙ sym (get_or_rows 𝓕 (2 ^ d - 1) f i (omega arith)))
 
       pub next_start : s + q ≡ (k - 1) * q + (a + 1) * q
       next_start = omega (arith, stride_next a q)

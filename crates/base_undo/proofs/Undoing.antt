@@ -17,7 +17,7 @@ use Rattle.foldable.specs.Every.{every}
 use Rattle.residue.specs.declared.Residue.{Residue}
 use Rattle.residue.specs.ResidueLaws.{stands}
 use Rattle.inversion.specs.Inversion.{gap, gap_inverses}
-use Rattle.inversion.specs.InversionLaws.{length_rows, get_d_rows, elements_differ}
+use Rattle.inversion.specs.InversionLaws.{length_rows, get_or_rows, elements_differ}
 use Rattle.inversion.specs.Strides.{stride_within}
 use Rattle.undo.specs.Steps.{ColumnLent, ColumnCode, ColumnUndone}
 use Rattle.base_undo.specs.Steps.{column_diagonal, column_of, undone_words, ColumnInput}
@@ -85,7 +85,7 @@ module _ (𝓕 : PrimeField) where
             inverse = λ i j h l.
                 let m = 2 ^ i - 1 + j in
                 ap el (ap₂ (λ v n. get_or v (n + m) 0) e (sym (length_row (2 ^ d) _)) ∙ get_or-append-add column inverses m 0)
-                ∙ stands 𝓕 _ (get_d_rows 𝓕 (2 ^ d - 1) (λ p. inv (gap 𝓕 n t t' p)) m (place_low i j h l))
+                ∙ stands 𝓕 _ (get_or_rows 𝓕 (2 ^ d - 1) (λ p. inv (gap 𝓕 n t t' p)) m (place_low i j h l))
                 ∙ ap₂ (λ x y. inv (x ⊟ y)) (sym (column_at t' i j l)) (sym (column_at t i j l));
           }
 

@@ -8,7 +8,7 @@ use Rattle.std.proofs.Math.ListN.{length, take}
 use Rattle.algebra.specs.Lists.{row, length_row, row_ext, map_row}
 use Rattle.algebra.specs.Matrix.{times}
 use Rattle.algebra.specs.Words.{PrimeField}
-use Rattle.algebra.specs.WordLists.{Low, low_words, elements, to_words, length_elements, length_words_lem, get_or_elements, get_d_words, elements_words, words_append}
+use Rattle.algebra.specs.WordLists.{Low, low_words, elements, to_words, length_elements, length_words_lem, get_or_elements, get_or_words, elements_words, words_append}
 use Rattle.foldable.specs.Code.{Code}
 use Rattle.foldable.specs.Columns.{pick, length_pick, restrict}
 use Rattle.foldable.specs.Decode.{undo, decode}
@@ -116,7 +116,7 @@ module _ (𝓕 : PrimeField) where
     unfolding undone_words to_words
     words_across j =
         row_ext k _ _
-        (λ b h. get_d_words 𝓕 (undo F (each b) (λ v. v) d (elements 𝓕 (every 0 n b (2 ^ d) w))) j
+        (λ b h. get_or_words 𝓕 (undo F (each b) (λ v. v) d (elements 𝓕 (every 0 n b (2 ^ d) w))) j
         ∙ ap (λ v. word (get_or (undo F (each b) (λ v. v) d v) j 𝟘)) (elements_every n b (2 ^ d) w ∙ sym (every_front 𝟘 n k (2 ^ d) (elements 𝓕 w) few block_length b h)))
         ∙ sym (map_row word k _)
 

@@ -1,4 +1,6 @@
 // The only message that a block of a code of k base rows allows. The columns of a block are independent of each other, so each is undone by itself.
+#![tactic(auto)]
+
 ghost use Rattle.std.specs.Prelude.{◌≡◌, List, ℕ, ◌*◌, ◌^◌, length, take};
 ghost use Rattle.algebra.specs.WordLists.{Low};
 ghost use Rattle.residue.specs.Elements.{P};

@@ -1,4 +1,6 @@
 // All checks in their order, over base messages of 1, 2 or 4 words.
+#![tactic(auto)]
+
 ghost use Rattle.std.specs.Prelude.{◌≡◌};
 ghost use Rattle.algebra.specs.WordLists.{elements};
 ghost use Rattle.basefold.specs.Checks.{first_failure, checks as all_checks};

@@ -1,4 +1,6 @@
 // The checks of the blocks, over base messages of 1, 2 or 4 words: block 0 against v and the base matrix, then each query on its way down the levels.
+#![tactic(auto)]
+
 ghost use Rattle.std.specs.Prelude.{◌≡◌, ◌++◌};
 ghost use Rattle.algebra.specs.WordLists.{elements};
 ghost use Rattle.basefold.specs.Checks.{first_failure, bases as base_checks, folds as fold_checks};

@@ -1,5 +1,5 @@
 -- No check fails exactly when every equation holds; and the places of a query, one from the other.
---     none-fails-exactly; place-first, place-next
+--     none_fails_exactly; place_first, place_next
 -- Assumes nothing.
 use Rattle.std.specs.Prelude.{◌≡◌, refl, true, ◌↔◌, get_or}
 use Rattle.std.proofs.Common.{sym, ◌∙◌, mod-lt, mod-eq_of_lt, eq-or-lt_of_le, mul-pos, zero-mul, pow_pos, le-leb, lt-ltb, le-ltb}

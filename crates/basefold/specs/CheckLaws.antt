@@ -1,4 +1,4 @@
--- Laws of the checks: which fails first (first-exactly), that none fails exactly when all hold (none-fails), and what the test of two elements says.
+-- Laws of the checks: which fails first (first_exactly), that none fails exactly when all hold (none_fails), and what the test of two elements says.
 -- Assumes nothing.
 use Rattle.std.proofs.Math.Path.{◌≡◌, refl}
 use Rattle.std.proofs.Common.{sym, ap, ap₂, ◌∙◌, arith}

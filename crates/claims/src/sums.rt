@@ -11,7 +11,7 @@ ghost use Rattle.claims.specs.Steps.{RoundSent, round_sum, ChallengeSent, SumsIn
 use residue::{Field, Residue};
 
 // The claim that is left, or the sum that fails.
-#[derive(Drop)]
+#[derive(Clone, Copy)]
 pub enum Claimed {
     Last(Residue),
     Fails(u32),

@@ -1,4 +1,6 @@
 // Clearances: slices of them turned into residues and back.
+#![tactic(auto)]
+
 mod clearance;
 pub mod slices;
 

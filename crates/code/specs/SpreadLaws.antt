@@ -9,7 +9,7 @@ use Rattle.std.proofs.Math.ListN.{length, take}
 use Rattle.std.proofs.lemmas.List.{length-map}
 use Rattle.algebra.specs.Vector.{vectors, get_or_multiple}
 use Rattle.algebra.specs.Words.{PrimeField}
-use Rattle.algebra.specs.WordLists.{elements, to_words, length_elements, length_words_lem, get_or_elements, get_d_words, words_take, words_drop}
+use Rattle.algebra.specs.WordLists.{elements, to_words, length_elements, length_words_lem, get_or_elements, get_or_words, words_take, words_drop}
 use Rattle.foldable.specs.Lift.{spread, length_spread}
 use Rattle.code.specs.Steps.{times}
 
@@ -33,7 +33,7 @@ module _ (𝓕 : PrimeField) where
   length_scaled a g = length_words_lem 𝓕 _ ∙ length-map (elements 𝓕 g) _ ∙ length_elements 𝓕 g
 
   pub scaled_at : (a : ℕ) (g : List ℕ) (i : ℕ) → get_or (scaled a g) i 0 ≡ word (el a ⊠ el (get_or g i 0))
-  scaled_at a g i = get_d_words 𝓕 _ i ∙ ap word (get_or_multiple K (el a) (elements 𝓕 g) i ∙ ap (λ x. el a ⊠ x) (get_or_elements 𝓕 g i))
+  scaled_at a g i = get_or_words 𝓕 _ i ∙ ap word (get_or_multiple K (el a) (elements 𝓕 g) i ∙ ap (λ x. el a ⊠ x) (get_or_elements 𝓕 g i))
 
   -- base block i
   pub chunk : (g m : List K.R) (i : ℕ) → i < length m → take (length g) (drop (i * length g) (spread F g m)) ≡ get_or m i K.𝟘 ⊛ g

@@ -1,4 +1,6 @@
 // From a table of clearances to the coefficients of its polynomial.
+#![tactic(auto)]
+
 ghost use Rattle.std.specs.Prelude.{◌≡◌, true, map, length};
 ghost use Rattle.algebra.specs.Tests.{all};
 ghost use Rattle.algebra.specs.WordLists.{elements, to_words};
@@ -30,9 +32,9 @@ fn judge(p: Parameters, clearances: &[i32], len: usize, field: Field) -> Answer
 }
 
 fn find(clearances: &[i32], message: &mut [u32], field: Field)
-    requires clearances_value { is_power (length clearances.now) ≡ true }
-    requires message_len { length message.old ≡ length clearances.now }
-    requires clearances_value_2 { all (in_range (chosen field)) clearances.now ≡ true }
+    requires power { is_power (length clearances.now) ≡ true }
+    requires same { length message.old ≡ length clearances.now }
+    requires range { all (in_range (chosen field)) clearances.now ≡ true }
     ensures { message.new ≡ to_words (chosen field) (coefficients (K (chosen field)) (exponent (length clearances.now)) (elements (chosen field) (map (residue_of (chosen field)) clearances.now))) }
 {
     let depth = table_length::depth_of(clearances.len());

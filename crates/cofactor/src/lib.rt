@@ -1,4 +1,6 @@
 // The cofactors of the first k columns of a base matrix of k rows, for k = 1, 2 and 4.
+#![tactic(auto)]
+
 ghost use Rattle.std.specs.Prelude.{◌≡◌, ◌+◌, ◌*◌, ◌<◌, ◌≤◌, length};
 ghost use Rattle.algebra.specs.WordLists.{Low};
 ghost use Rattle.residue.specs.Elements.{P, word};

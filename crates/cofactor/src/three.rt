@@ -7,7 +7,7 @@ ghost use Rattle.cofactor.specs.Cofactors.{LowTriple, two_rows, three_rows};
 use residue::{Field, Residue};
 
 // A row of three.
-#[derive(Drop)]
+#[derive(Clone, Copy)]
 pub struct Triple {
     pub a: Residue,
     pub b: Residue,

@@ -6,7 +6,7 @@ use Prim.Native.Nat.{ℕ, ◌+◌, ◌*◌, ◌^◌}
 use lib.ListN.{length, get_or}
 use Rattle.algebra.specs.Lists.{row_ext, map_row}
 use Rattle.algebra.specs.Words.{PrimeField}
-use Rattle.algebra.specs.WordLists.{elements, to_words, get_d_words}
+use Rattle.algebra.specs.WordLists.{elements, to_words, get_or_words}
 use Rattle.algebra.specs.Tests.{all_same}
 use Rattle.foldable.specs.Every.{every}
 use Rattle.foldable.specs.Lift.{lift}
@@ -22,7 +22,7 @@ module _ (𝓕 : PrimeField) where
   -- the columns of words are the words of the columns
   pub words_every : (c a b : ℕ) (v : List Element) → to_words 𝓕 (every K.𝟘 c a b v) ≡ every 0 c a b (to_words 𝓕 v)
   unfolding to_words
-  words_every c a b v = map_row word b (λ i. get_or v (a + i * c) K.𝟘) ∙ row_ext b _ _ (λ i h. sym (get_d_words 𝓕 v (a + i * c)))
+  words_every c a b v = map_row word b (λ i. get_or v (a + i * c) K.𝟘) ∙ row_ext b _ _ (λ i h. sym (get_or_words 𝓕 v (a + i * c)))
 
   -- the comparison of what is lifted, at its length
   module _ (d j : ℕ) (g t t' b w : List ℕ) (𝓛 : ColumnLent 𝓕 d j g t t' w) (size : length b ≡ block_size (length g) d) (out : List ℕ) (same : length out ≡ length w) where

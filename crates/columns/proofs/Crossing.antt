@@ -8,7 +8,7 @@ use lib.Seq.{get_or-take, get_or-drop}
 use Rattle.algebra.specs.Vector.{vectors, length_butterfly, get_or_butterfly}
 use Rattle.algebra.specs.Paired.{Paired, paired_none, paired_length, paired_left, paired_right, paired_turn, paired_end}
 use Rattle.algebra.specs.Words.{PrimeField}
-use Rattle.algebra.specs.WordLists.{elements, to_words, length_elements, length_words_lem, get_or_elements, get_d_words, words_append}
+use Rattle.algebra.specs.WordLists.{elements, to_words, length_elements, length_words_lem, get_or_elements, get_or_words, words_append}
 use Rattle.columns.specs.Steps.{CrossInput, crossed}
 
 module _ (𝓕 : PrimeField) where
@@ -34,7 +34,7 @@ module _ (𝓕 : PrimeField) where
 
     combined_at : (i : ℕ) → i < n → get_or (combined l t r) i 0 ≡ word (el (get_or l i 0) ⊞ el (get_or t i 0) ⊠ el (get_or r i 0))
     combined_at i h =
-        get_d_words 𝓕 _ i
+        get_or_words 𝓕 _ i
         ∙ ap word
         (get_or_butterfly K n (elements 𝓕 l) (elements 𝓕 t) (elements 𝓕 r) (length_elements 𝓕 l ∙ ll) (length_elements 𝓕 t ∙ lt) (length_elements 𝓕 r ∙ lr) i h
         ∙ ap₂ ◌⊞◌ (get_or_elements 𝓕 l i) (ap₂ ◌⊠◌ (get_or_elements 𝓕 t i) (get_or_elements 𝓕 r i)))

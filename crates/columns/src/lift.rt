@@ -10,11 +10,11 @@ ghost use Rattle.residue.specs.Chosen.{chosen};
 ghost use Rattle.undo.specs.Steps.{longest_base};
 ghost use Rattle.columns.specs.Steps.{ColumnHalfIs, ColumnLent, lent_column};
 
-use crate::places;
+use crate::column;
 use residue::Field;
 
 // Half a column of a level, and where column j of the level's diagonal begins.
-#[derive(Drop)]
+#[derive(Clone, Copy)]
 pub struct ColumnHalf {
     pub half: usize,
     pub off: usize,
@@ -46,7 +46,7 @@ fn lift(depth: u32, j: usize, g: &[u32], t: &[u32], t2: &[u32], w: &mut [u32], f
     let low = p.low;
     lift(low, j, g, t, t2, &mut w[..half], field);
     lift(low, j, g, t, t2, &mut w[half..], field);
-    places::cross(half, p.off, g.len(), t, t2, w, field);
+    column::cross(half, p.off, g.len(), t, t2, w, field);
 }
 
 // Whether w, with the levels over it, is column j of the block.
@@ -64,5 +64,5 @@ pub fn lifts_to(
     ensures { result ≡ all_same (to_words (chosen field) (lifted (F (chosen field)) (lent_column (chosen field) j g.now t.now t2.now) depth (elements (chosen field) w.old))) (every 0 (length g.now) j (2 ^ depth) block.now) }
 {
     lift(depth, j, g, t, t2, w, field);
-    places::same_places(j, g.len(), block, w)
+    column::same_places(j, g.len(), block, w)
 }

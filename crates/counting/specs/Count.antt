@@ -2,7 +2,7 @@
 use Rattle.std.specs.Prelude.{◌≡◌}
 use Rattle.std.proofs.Common.{ap, ◌∙◌, length-append}
 use Rattle.std.proofs.Math.Logic.{ite}
-use mathlib.Core.List.{List, [], ◌∷◌, ◌++◌, map, flat_map, filter, filter_map, filter-append, Mem, Nodup, mem-cast, mem-cons_self, mem-cons_of_mem, Nodup-cons}
+use mathlib.Core.List.{List, [], ◌∷◌, ◌++◌, map, flat_map, filter, filter-map, filter-append, Mem, Nodup, mem-cast, mem-cons_self, mem-cons_of_mem, Nodup-cons}
 use Prim.Native.Nat.{ℕ, zero, suc, ◌+◌, ◌*◌, ◌-◌, ◌≤◌}
 use Rattle.std.proofs.Math.Nat.{zero-mul, suc-mul}
 use native.Mathlib.Omega.{arith}
@@ -27,7 +27,7 @@ module _ {B : Type 0} {P : B → Type 0} (test : (b : B) → Dec (P b)) where
   count_append xs ys = ap length (filter-append test xs ys) ∙ length-append (filter test xs) (filter test ys)
 
   pub count_map : {A : Type 0} (f : A → B) (xs : List A) → count test (map f xs) ≡ count (λ a. test (f a)) xs
-  count_map f xs = ap length (filter_map test f xs) ∙ length-map (filter (λ a. test (f a)) xs) f
+  count_map f xs = ap length (filter-map test f xs) ∙ length-map (filter (λ a. test (f a)) xs) f
 
   module _ {A : Type 0} (f : A → List B) (a b : ℕ) where
     -- in each f x at most a - b pass

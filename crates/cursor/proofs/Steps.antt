@@ -1,21 +1,18 @@
 -- The loop over n numbers that are judged. Assumes nothing.
 use mathlib.Core.Path.{◌≡◌, refl, sym, ap, ◌∙◌}
-use mathlib.Core.List.{List, [], ◌∷◌}
+use mathlib.Core.List.{List}
 use Prim.Native.Nat.{ℕ, suc, ◌+◌, ◌-◌, ◌<◌, ◌≤◌}
 use native.Mathlib.Omega.{arith}
-use denote.Enum.Declared.{tag_of}
-use types.Run.{OneOf, miss}
 use Rattle.job.specs.Outcome.{Numbers, Outcome, done}
 use Rattle.cursor.specs.declared.Skimmed.{Skimmed}
 use Rattle.cursor.specs.declared.Skimmed.TheVariants.{At, Ends, Malformed, High}
 use Rattle.cursor.specs.Shown.{told}
 use Rattle.cursor.specs.Walk.{◌⟫◌, judged, walk}
-use Rattle.cursor.specs.contracts.Skimmed.{the_type}
 use Rattle.cursor.specs.Laws.{then_on, then_stop}
 
 -- an answer that is no place decides
-told_stop : (fault : ℕ → Numbers) (r : Skimmed) {o : Outcome ℕ} (f : ℕ → Outcome ℕ) → OneOf (1 ∷ 2 ∷ 3 ∷ []) (tag_of the_type r) → told fault r ≡ o → told fault r ≡ o ⟫ f
-told_stop fault (At n) f k e = absurd (miss (1 ∷ 2 ∷ 3 ∷ []) 0 tt k)
+told_stop : (fault : ℕ → Numbers) (r : Skimmed) {o : Outcome ℕ} (f : ℕ → Outcome ℕ) → ((x : ℕ) → r ≡ At x → ⊥) → told fault r ≡ o → told fault r ≡ o ⟫ f
+told_stop fault (At n) f k e = absurd (k n refl)
 told_stop fault Ends f k e = then_stop f e
 told_stop fault Malformed f k e = then_stop f e
 told_stop fault (High n) f k e = then_stop f e
@@ -29,7 +26,7 @@ module _ (J : ℕ → ℕ → Outcome (Unit {0})) (n : ℕ) (bs : List ℕ) (at 
   pub walk_turn : {next : ℕ} → i < n → done next ≡ judged J i bs here → walk J 0 n bs at ≡ walk J (i + 1) (n - (i + 1)) bs next
   walk_turn {next} h e = one_more h ∙ sym (then_on (walk J (i + 1) (n - (i + 1)) bs) e refl)
 
-  pub walk_stop : (fault : ℕ → Numbers) (r : Skimmed) → OneOf (1 ∷ 2 ∷ 3 ∷ []) (tag_of the_type r) → i < n → told fault r ≡ judged J i bs here → told fault r ≡ walk J 0 n bs at
+  pub walk_stop : (fault : ℕ → Numbers) (r : Skimmed) → ((x : ℕ) → r ≡ At x → ⊥) → i < n → told fault r ≡ judged J i bs here → told fault r ≡ walk J 0 n bs at
   walk_stop fault r k h e = told_stop fault r (walk J (i + 1) (n - (i + 1)) bs) k e ∙ sym (one_more h)
 
   pub walk_end : n ≤ i → done here ≡ walk J 0 n bs at

@@ -1,4 +1,6 @@
 // Numbers that stand one after another in a file. A place goes in by value, and the place after what was read comes back.
+#![tactic(auto)]
+
 ghost use Rattle.std.specs.Prelude.{◌≡◌, ℕ, length};
 ghost use Rattle.job.specs.Outcome.{Numbers};
 ghost use Rattle.cursor.specs.Walk.{under, judged, walk, entry, listed, after};
@@ -9,7 +11,7 @@ use numeral::read::{Read, read_number};
 pub mod write;
 
 // The place after what was read, or the first fault.
-#[derive(Drop)]
+#[derive(Clone, Copy)]
 pub enum Skimmed {
     At(usize),
     Ends,
@@ -19,7 +21,7 @@ pub enum Skimmed {
 }
 
 // What stands at a place.
-#[derive(Drop)]
+#[derive(Clone, Copy)]
 pub struct Entry {
     pub value: u32,
     pub next: usize,

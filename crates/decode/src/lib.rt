@@ -1,3 +1,4 @@
 // Decoding: the message of a codeword.
+#![tactic(auto)]
 
 pub mod decode;

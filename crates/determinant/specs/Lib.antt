@@ -6,9 +6,9 @@
 --     Wedge           alternating forms: a vector times a form; a vector twice gives 0
 --     Image           the image of a form under a matrix: the product of the rows of A M
 --     Expansion       the determinant is the coefficient of all columns in the product of the rows
---     Multiplicative  det-product: det(A M) = det(A) det(M); det-identity
---     Adjugate        product-adjugate: A adj(A) = det(A) I
---     Exactly         from-right, from-left, invertible, unique, singular-exactly, invertible-exactly
+--     Multiplicative  det_product: det(A M) = det(A) det(M); det_identity
+--     Adjugate        product_adjugate: A adj(A) = det(A) I
+--     Exactly         from_right, from_left, invertible, unique, singular_exactly, invertible_exactly
 --     Sizes           the determinants and adjugates of 1, 2 and 4 rows, written out
 pub mod Inverse
 pub mod Determinant

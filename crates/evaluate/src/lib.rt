@@ -1,4 +1,6 @@
 // The job of evaluation: the value of the polynomial whose coefficients a message holds.
+#![tactic(auto)]
+
 ghost use Rattle.std.specs.Prelude.{◌≡◌, ◌&&◌};
 ghost use Rattle.job.specs.Outcome.{outcome, require, ◌⨾◌};
 ghost use Rattle.job.specs.Sizes.{k0_ok, depth_ok, size_ok};
@@ -11,7 +13,7 @@ use places::inputs;
 use residue::Field;
 use words::scan;
 
-#[derive(Drop)]
+#[derive(Clone, Copy)]
 pub enum Evaluation {
     Value(u32),
     Refused(Refusal),

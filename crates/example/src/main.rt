@@ -1,8 +1,11 @@
 // One run from a message to a verified opening: depth 1, rate 2, the message 5 + 7 X at the point 3.
+#![tactic(auto)]
+
 use job::Parameters;
+use std::io;
 use tvarchula::{coding, opening};
 
-fn main() {
+fn main(rt: HostRuntime) -> io::Result<()> {
     let p = Parameters {
         depth: 1,
         rate: 2,
@@ -15,11 +18,11 @@ fn main() {
     let z = [3u32];
     let r = [4u32];
     let queries = [0u32, 1];
-    print::label(b"depth 1 rate 2");
-    print::end();
+    print::label(&rt, b"depth 1 rate 2")?;
+    print::end(&rt)?;
     let mut block = [0u32; 4];
     coding::tv_encode(false, p, &g, &t, &t2, &message, &mut block);
-    print::words(b"codeword", &block);
+    print::words(&rt, b"codeword", &block)?;
     let mut opened = [0u32; 6];
     let mut work = [0u32; 4];
     let mut y = 0u32;
@@ -36,7 +39,7 @@ fn main() {
         &mut work,
         &mut y,
     );
-    print::words(b"opening", &opened);
+    print::words(&rt, b"opening", &opened)?;
     let v = opening::tv_verify_opening(false, p, &g, &t, &t2, &block, &z, y, &r, &queries, &opened);
-    print::line(b"verdict", v.number);
+    print::line(&rt, b"verdict", v.number)
 }

@@ -1,4 +1,6 @@
 // The first place where a test fails of numbers that still stand in a file, for refusals that are judged after the last byte was read.
+#![tactic(auto)]
+
 ghost use Rattle.std.specs.Prelude.{◌≡◌};
 ghost use Rattle.places.specs.Places.{zero_place, equal_place};
 ghost use Rattle.cursor.specs.Walk.{listed};

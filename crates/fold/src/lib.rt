@@ -1,4 +1,6 @@
 // Folding a block by one level.
+#![tactic(auto)]
+
 ghost use Rattle.std.specs.Prelude.{◌≡◌, ◌&&◌, [], ◌∷◌, ltb};
 ghost use Rattle.job.specs.Outcome.{outcome, unless, ◌⨾◌};
 ghost use Rattle.residue.specs.Elements.{P};

@@ -1,4 +1,6 @@
 // Level, rate, k0 and lengths of a fold.
+#![tactic(auto)]
+
 ghost use Rattle.std.specs.Prelude.{◌≡◌, ◌&&◌};
 ghost use Rattle.job.specs.Outcome.{outcome, require, ◌⨾◌};
 ghost use Rattle.job.specs.Limits.{rate_ok};

@@ -3,7 +3,7 @@ use Rattle.std.specs.Prelude.{◌≡◌, refl, Bool, true, false, List, ◌++◌
 use Rattle.std.proofs.Common.{sym, ap, ap₂, ◌∙◌, zero-add, one-mul, mul_comm, add-mul, suc-mul, mul-le-mul_right, div-add-mod', div-lt_iff_lt-mul, mod-lt, arith, get_or-append-add, ext_get_or}
 use Rattle.std.proofs.lemmas.Bool.{false≢true}
 use Rattle.std.proofs.Math.ListN.{get_or-append}
-use Rattle.algebra.specs.Lists.{row, length_row, get_or_row, row_ext, row_append, zip, get_d_zip, zip_row}
+use Rattle.algebra.specs.Lists.{row, length_row, get_or_row, row_ext, row_append, zip, get_or_zip, zip_row}
 use Rattle.algebra.specs.Tests.{all₂, all₂_at, all₂_of}
 use Rattle.foldable.specs.Columns.{pick, length_pick, get_or_pick}
 
@@ -25,7 +25,7 @@ module _ {A : Type 0} (d : A) where
 
   pub every_zip : (f : A → A → A) (c a b : ℕ) (v w : List A) → a < c → length v ≡ c * b → length w ≡ c * b → every c a b (zip f v w) ≡ zip f (every c a b v) (every c a b w)
   every_zip f c a b v w h p q =
-      row_ext b _ _ (λ i l. let within = place_within c b a i h l in get_d_zip f v w d d d (a + i * c) (omega arith) (omega arith))
+      row_ext b _ _ (λ i l. let within = place_within c b a i h l in get_or_zip f v w d d d (a + i * c) (omega arith) (omega arith))
       ∙ sym (zip_row f b (λ i. get_or v (a + i * c) d) (λ i. get_or w (a + i * c) d))
 
   -- the first column, by its blocks

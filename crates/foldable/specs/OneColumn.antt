@@ -7,7 +7,7 @@ use Rattle.std.proofs.Math.Nat.{zero-mul, add-zero, two-pow-succ}
 use Rattle.std.proofs.Math.ListN.{length-map}
 use Rattle.std.proofs.lemmas.List.{get_or-replicate}
 use Rattle.algebra.specs.Field.{Field}
-use Rattle.algebra.specs.Lists.{row, length_row, get_or_row, zip, length_zip, get_d_zip, differ_at, differ_of}
+use Rattle.algebra.specs.Lists.{row, length_row, get_or_row, zip, length_zip, get_or_zip, differ_at, differ_of}
 use Rattle.algebra.specs.Vector.{length_butterfly, get_or_multiple, vectors}
 use Rattle.algebra.specs.Matrix.{Wide, wide_map, times, length_times}
 use Rattle.foldable.specs.Code.{Code, size, dim, generator, encode, Legal}
@@ -54,7 +54,7 @@ module _ (F : Field) (C : Code F) (j : ℕ) (within : j < C.n₀) where
   column_times (x ∷ m) [] w = ap (λ x. x ∷ []) (get_or-replicate n₀ j 𝟘 𝟘 within)
   column_times (x ∷ m) (row ∷ G) w =
       ap (λ y. y ∷ [])
-      (get_d_zip K.◌+◌ (map (K.◌*◌ x) row) (times K n₀ m G) 𝟘 𝟘 𝟘 j (omega (arith, length-map row (K.◌*◌ x), w.0)) (omega (arith, length_times K n₀ m G w.1))
+      (get_or_zip K.◌+◌ (map (K.◌*◌ x) row) (times K n₀ m G) 𝟘 𝟘 𝟘 j (omega (arith, length-map row (K.◌*◌ x), w.0)) (omega (arith, length_times K n₀ m G w.1))
       ∙ ap (λ y. K.◌+◌ y (get_or (times K n₀ m G) j 𝟘)) (get_or_multiple K x row j))
       ∙ ap (λ v. (K.◌*◌ x (get_or row j 𝟘) ∷ []) ⊕ v) (column_times m G w.1)
 

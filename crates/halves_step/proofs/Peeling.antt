@@ -8,10 +8,10 @@ use lib.Dec.{eqb}
 use lib.ListN.{length, take, drop, get_or, set, length-append, length-take, length-drop, get_or-append}
 use lib.Seq.{get_or-take, get_or-drop, ext_get_or}
 use Rattle.algebra.specs.Filling.{Filled, filled_none, filled_turn, filled_end, filled_old, filled_new, filled_length}
-use Rattle.algebra.specs.Lists.{zip, length_zip, get_d_zip}
+use Rattle.algebra.specs.Lists.{zip, length_zip, get_or_zip}
 use Rattle.algebra.specs.Tests.{all₂_none, all₂_turn, all₂_end, all_same}
 use Rattle.algebra.specs.Words.{PrimeField}
-use Rattle.algebra.specs.WordLists.{elements, to_words, length_elements, length_words_lem, get_or_elements, get_d_words}
+use Rattle.algebra.specs.WordLists.{elements, to_words, length_elements, length_words_lem, get_or_elements, get_or_words}
 use Rattle.halves_step.specs.Steps.{peeled, raised, LentPeel, FrontPeel, Peeled}
 
 -- of a block in front of w, with the codeword behind it
@@ -49,11 +49,11 @@ module _ (𝓕 : PrimeField) where
         let a = length_elements 𝓕 l in
         let b = length_elements 𝓕 t in
         let c = length_elements 𝓕 r in
-        get_d_words 𝓕 _ i
+        get_or_words 𝓕 _ i
         ∙ ap word
-        (get_d_zip f (elements 𝓕 l) (zip ◌⊠◌ (elements 𝓕 t) (elements 𝓕 r)) K.𝟘 K.𝟘 K.𝟘 i (omega arith) (omega (arith, product))
+        (get_or_zip f (elements 𝓕 l) (zip ◌⊠◌ (elements 𝓕 t) (elements 𝓕 r)) K.𝟘 K.𝟘 K.𝟘 i (omega arith) (omega (arith, product))
         ∙ ap₂ f (get_or_elements 𝓕 l i)
-        (get_d_zip ◌⊠◌ (elements 𝓕 t) (elements 𝓕 r) K.𝟘 K.𝟘 K.𝟘 i (omega arith) (omega arith) ∙ ap₂ ◌⊠◌ (get_or_elements 𝓕 t i) (get_or_elements 𝓕 r i)))
+        (get_or_zip ◌⊠◌ (elements 𝓕 t) (elements 𝓕 r) K.𝟘 K.𝟘 K.𝟘 i (omega arith) (omega arith) ∙ ap₂ ◌⊠◌ (get_or_elements 𝓕 t i) (get_or_elements 𝓕 r i)))
 
   module _ (n : ℕ) (l t r : List ℕ) (ll : length l ≡ n) (lt : length t ≡ n) (lr : length r ≡ n) where
     pub length_peeled : length (peeled 𝓕 l t r) ≡ n

@@ -17,8 +17,8 @@ module _ {A : Type 0} where
 
   -- what lies within the first b places of two lists that are the same there
   module _ (b : ℕ) (v w : List A) (e : take b v ≡ take b w) where
-    pub get_d_front : (k : ℕ) (d : A) → k < b → get_or v k d ≡ get_or w k d
-    get_d_front k d h = sym (get_or-take b v k d h) ∙ ap (λ u. get_or u k d) e ∙ get_or-take b w k d h
+    pub get_or_front : (k : ℕ) (d : A) → k < b → get_or v k d ≡ get_or w k d
+    get_or_front k d h = sym (get_or-take b v k d h) ∙ ap (λ u. get_or u k d) e ∙ get_or-take b w k d h
 
     pub part_front : (a n : ℕ) → a + n ≤ b → take n (drop a v) ≡ take n (drop a w)
     part_front a n h = sym (part_take a n b v h) ∙ ap (λ u. take n (drop a u)) e ∙ part_take a n b w h

@@ -18,7 +18,7 @@ use Rattle.code.specs.Steps.{times, LiftInput}
 use Rattle.code.specs.SpreadLaws.{spreaded, length_spreaded, length_scaled, spread_part, next_within}
 use Rattle.halves_step.specs.Steps.{RightLent, RightSpread, CodeLent, RightWritten}
 use Rattle.halves_step.proofs.Encodes.{lifting, encoded}
-use Rattle.halves_step.proofs.Places.{part_take, get_d_front, put_front, put_length, put_part, put_next}
+use Rattle.halves_step.proofs.Places.{part_take, get_or_front, put_front, put_length, put_part, put_next}
 
 -- the right half of a message of two halves of n words each
 abbrev pub right_of : ℕ → List ℕ → List ℕ
@@ -49,14 +49,14 @@ module _ (𝓕 : PrimeField) where
       word_is : get_or out (n + i) 0 ≡ get_or (right_of n w) i 0
       word_is =
           let k = 𝓡.behind in
-          get_d_front b out w p.front (n + i) 0 (omega arith) ∙ sym (get_or-take n (drop n w) i 0 h ∙ get_or-drop n w i 0)
+          get_or_front b out w p.front (n + i) 0 (omega arith) ∙ sym (get_or-take n (drop n w) i 0 h ∙ get_or-drop n w i 0)
 
       -- and the message's words are below the modulus
       pub word_low : (k : ℕ) → k < n + n → get_or out k 0 < P
       word_low k u =
           let v = 𝓡.behind in
           let e = 𝓡.within in
-          rw (get_d_front b out w p.front k 0 (omega arith), sym (get_or-take (n + n) w k 0 u)) (𝓡.message.low k (omega (arith, length-take (n + n) w)))
+          rw (get_or_front b out w p.front k 0 (omega arith), sym (get_or-take (n + n) w k 0 u)) (𝓡.message.low k (omega (arith, length-take (n + n) w)))
 
       pub next : x + length g ≤ length out
       next = omega (arith, p.long, 𝓡.within, next_within (right_of n w) g i (i * length g) (omega (arith, length_right)) refl, ap (λ k. k * length g) length_right)

@@ -8,7 +8,7 @@ use residue::Field;
 use words::entry;
 
 // The word of the left half's codeword, and whether the block's second word follows from it.
-#[derive(Drop)]
+#[derive(Clone, Copy)]
 pub struct Peel {
     pub left: u32,
     pub same: bool,

@@ -1,4 +1,6 @@
 // What a proof carries of a block's hash tree: for each query the two words of its leaf, and the path of that leaf. The tree is hashed once.
+#![tactic(auto)]
+
 ghost use Rattle.std.specs.Prelude.{◌≡◌, ◌+◌, ◌*◌, ◌^◌, ◌<◌, ◌≤◌, length};
 ghost use Rattle.merkle.specs.Tree.{node};
 ghost use Rattle.hash_tree.specs.Tree.{node_hash};

@@ -1,4 +1,6 @@
 // What is written for each query of a hash tree, in a part of the buffer that is the query's own.
+#![tactic(auto)]
+
 ghost use Rattle.std.specs.Prelude.{◌≡◌, not, ◌<◌};
 ghost use Rattle.algebra.specs.Tests.{all};
 ghost use Rattle.hash_parts.specs.Queries.{under};

@@ -1,4 +1,6 @@
 // The path of a leaf in a hash tree, as bytes: 32 for each sibling, from the leaf up.
+#![tactic(auto)]
+
 ghost use Rattle.std.specs.Prelude.{◌≡◌, length};
 ghost use Rattle.merkle.specs.Tree.{parent as parent_of};
 ghost use Rattle.hash_tree.specs.Tree.{node_hash};

@@ -1,4 +1,6 @@
 // The hash tree over a block of words. Leaf j holds the words j and j + n/2, the two that a fold takes together.
+#![tactic(auto)]
+
 ghost use Rattle.std.specs.Prelude.{◌≡◌, ◌+◌, ◌*◌, ◌/◌, ◌^◌, ◌<◌, ◌≤◌, length};
 ghost use Rattle.merkle.specs.Tree.{node};
 ghost use Rattle.hash_tree.specs.Tree.{node_hash};

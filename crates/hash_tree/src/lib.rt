@@ -1,4 +1,6 @@
 // Leaves and nodes of a hash tree over pairs of words.
+#![tactic(auto)]
+
 ghost use Rattle.std.specs.Prelude.{◌≡◌, length};
 ghost use Rattle.hash_tree.specs.Tree.{leaf_hash, node_hash};
 

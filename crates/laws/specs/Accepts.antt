@@ -1,12 +1,12 @@
 -- When the verifier accepts: exactly when nothing is refused and each of the order's equations holds, over the words lent; and
 -- which check it names otherwise.
---     accepts-exactly, rejects-exactly
+--     accepts_exactly, rejects_exactly
 -- Assumes nothing.
 use Rattle.std.specs.Prelude.{◌≡◌, refl, true, cond, ◌↔◌, List, ◌++◌, ℕ, suc, ◌+◌, ◌*◌, ◌^◌, ◌<◌, ◌≤◌, eqb, ltb, length, get_or, take, drop}
 use Rattle.std.proofs.Common.{sym, ◌∙◌, add_comm, length-take, length-drop}
 use Rattle.std.proofs.Math.Path.{ap, ap₂}
 use Rattle.std.proofs.Math.Bool.{Bool}
-use Rattle.std.proofs.Math.Logic.{Iff·trans}
+use Rattle.std.proofs.Math.Logic.Iff
 use Rattle.std.proofs.Math.Option.{Option, none, some}
 use native.Mathlib.Omega.{arith}
 use borrow.Author.Tests.{eqb-true}
@@ -194,7 +194,7 @@ module _ (𝓕 : PrimeField) where
     none_exactly e =
         let 𝓚 = known e in
         let legal : Queries n (length (elements 𝓕 r)) us = rw (depth 𝓚) (legal_queries d n us 𝓚.asked) in
-        Iff·trans (none_fails_exactly F (low k) C (elements 𝓕 w) (elements 𝓕 z) (el y) (elements 𝓕 r) us (elements 𝓕 o) legal) (equations 𝓚)
+        Iff.trans (none_fails_exactly F (low k) C (elements 𝓕 w) (elements 𝓕 z) (el y) (elements 𝓕 r) us (elements 𝓕 o) legal) (equations 𝓚)
 
     -- the verifier answers 0 exactly when nothing is refused and every equation holds
     pub accepts_exactly : (numbers_of (verification 𝓕 d c k g t t' w z y r us o) ≡ (0, 0, 0)) ↔ ((judge_verifying 𝓕 d c k g t t' w z y r us o ≡ done tt) × Accepts 𝓕 d c k g t t' w z y r us o)

@@ -52,7 +52,7 @@ module _ (𝓕 : PrimeField) where
     -- base j: block 0 holds the sum over b of word b of v times word j of row b
     pub base : (j : ℕ) → j < base_size c k → block_element d c k w o 0 j ≡ sums.sum K k (λ b. final_element d k o b ⊠ el (get_or g (b * base_size c k + j) 0))
     -- fold, query q, level i: at the query's place u the line through (T_i[u], block_(i+1)[u]) and (T'_i[u], block_(i+1)[u + n_i]) has at r_i the value block_i[u].
-    -- `place-first` and `place-next` of basefold/Accepts say that these places are the query, and each the next one of that above
+    -- `place_first` and `place_next` of basefold/Accepts say that these places are the query, and each the next one of that above
     pub fold : (q i u : ℕ) → q < length us → i < d → u ≡ place_at (base_size c k) (get_or us q 0) i
         → line F (el (get_or r i 0)) (el (get_or (diagonal (base_size c k) t i) u 0)) (el (get_or (diagonal (base_size c k) t' i) u 0)) (block_element d c k w o (suc i) u)
         (block_element d c k w o (suc i) (u + block_size (base_size c k) i))

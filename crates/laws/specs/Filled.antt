@@ -1,6 +1,6 @@
 -- What filling by rule leaves, said of calls: no job over the second field refuses it, and what encoding then writes is the list of values of one polynomial in one
 -- variable, its coefficients the message in bit-reversed order, at the powers 0 to n_d - 1 of the table's root of the order n_d.
---     filled-one, filled_row, filled-encodes
+--     filled_one, filled_row, filled_encodes
 -- Assumes nothing.
 use Rattle.std.specs.Prelude.{◌≡◌, List, map, ℕ, ◌+◌, ◌*◌, ◌^◌}
 use Rattle.std.proofs.Common.{sym, ap, subst, ◌∙◌, one-mul}
@@ -29,7 +29,7 @@ module _ {d c k : ℕ} {g t t' : List ℕ} {r : Answer} {g₁ t₁ t₁' : List 
   pub filled_row : LegalRows 𝔽₂ d c k g₁ t₁ t₁'
   filled_row = subst (λ k. LegalRows 𝔽₂ d c k g₁ t₁ t₁') (sym filled_one) (filled_legal d c k g t t' r g₁ t₁ t₁' 𝓒 e)
 
-  -- the root that the table has for blocks of level d, of the order n_d (filled-order, fill_roots/FillingLaws)
+  -- the root that the table has for blocks of level d, of the order n_d (filled_order, fill_roots/FillingLaws)
   abbrev pub ω : F₂.ring.R
   ω = root₂ (exponent c + d)
 

@@ -1,5 +1,5 @@
 -- Encoding, writing and verifying, one after the other: the verdict is 0 wherever no refusal is due.
---     commit-accepted
+--     commit_accepted
 -- Assumes nothing.
 use Rattle.std.specs.Prelude.{◌≡◌, refl, true, ◌&&◌, List, [], ◌∷◌, ℕ, length, replicate}
 use Rattle.std.proofs.Common.{sym, ap, ap₂, ◌∙◌, arith}

@@ -4,7 +4,7 @@
 use Rattle.std.specs.Prelude.{◌≡◌, refl, Bool, true, ◌&&◌, ◌↔◌, List, [], ◌∷◌, ◌++◌, ℕ, ◌≤◌, eqb, length}
 use Rattle.std.proofs.Math.Path.{sym, ap}
 use Rattle.std.proofs.Common.{◌∙◌, arith}
-use Rattle.std.proofs.Math.Logic.{Iff·trans, Iff·symm}
+use Rattle.std.proofs.Math.Logic.Iff
 use Rattle.algebra.specs.Tests.{and_both}
 use Rattle.algebra.specs.Words.{PrimeField}
 use Rattle.determinant.specs.Inverse.{Singular}
@@ -21,7 +21,8 @@ use Rattle.parameters.specs.Parameters.{row_inputs}
 use Rattle.cofactor.specs.Rows.{first_columns}
 use Rattle.base_parameters.specs.Parameters.{row_lengths}
 use Rattle.base_parameters.specs.ParameterLaws.{row_lengths_lem, base_of_one}
-use Rattle.base_parameters.specs.NamedLaws.{sizes, RowsNamed, rows_named, singular_named}
+use Rattle.base_parameters.specs.NamedLaws.{sizes, RowsNamed}
+use Rattle.base_parameters.proofs.NamedRows.{rows_named, singular_named}
 use Rattle.clearance.specs.Clearances.{clearance_of, meaning}
 use Rattle.read_clearance.specs.Reading.{reading}
 use Rattle.table_length.specs.Depth.{table_ok}
@@ -154,7 +155,7 @@ module _ (𝓕 : PrimeField) where
         λ x. let a = (𝓝.five j n).0 x in let z = (zero_named g).0 (sym f ∙ a.2) in (a.0, a.1, z.0, z.1),
         λ h. (𝓝.five j n).1 (h.0, h.1, f ∙ (zero_named g).1 (h.2, h.3)),
       );
-      more = λ e j n. Iff·trans (Iff·trans (𝓝.five j n) (Iff·symm ((rows_named 𝓕 d c k g t t' l xs).five j n))) (singular_named 𝓕 d c k g t t' l xs e long j n);
+      more = λ e j n. Iff.trans (Iff.trans (𝓝.five j n) (Iff.symm ((rows_named 𝓕 d c k g t t' l xs).five j n))) (singular_named 𝓕 d c k g t t' l xs e long j n);
     }
 
   module _ (d c k : ℕ) (g t t' : List ℕ) where

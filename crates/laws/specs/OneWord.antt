@@ -1,6 +1,6 @@
 -- With one word a base message the definitions that the contracts cite are those of one base row g: the code, the opening and the checks; and the verifier compares v * eq(z, r) with the last claim and
 -- block 0 with v * g[j].
---     code_one, codeword-one, opening-one, checks-one; AcceptsOne, accepts-one
+--     code_one, codeword_one, opening_one, checks_one; AcceptsOne, accepts_one
 -- Assumes nothing.
 use Rattle.std.specs.Prelude.{◌≡◌, refl, ◌↔◌, List, [], ◌∷◌, ◌++◌, ℕ, suc, ◌+◌, ◌*◌, ◌<◌, ◌≤◌, length, get_or, take}
 use Rattle.std.proofs.Common.{sym, ap, ◌∙◌, mul-one, zero-mul, arith, drop-cons}

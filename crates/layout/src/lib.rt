@@ -1,5 +1,7 @@
 // Where rounds and v stand in an opening, for who writes it and for who verifies it: the rounds from the top one down, then v. The blocks below the top
 // level, from the upper ones down, stand behind it.
+#![tactic(auto)]
+
 ghost use Rattle.std.specs.Prelude.{◌≡◌, ◌≤◌};
 ghost use Rattle.basefold.specs.Layout.{round_at, final_at};
 

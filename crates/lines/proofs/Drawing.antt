@@ -14,7 +14,7 @@ use Rattle.residue.specs.Chosen.{chosen}
 use Rattle.residue.specs.Scale.{room}
 use Rattle.inversion.specs.Inversion.{Diagonals}
 use Rattle.inversion.specs.Scaled.{ScaledInverses}
-use Rattle.inversion.specs.InversionLaws.{length_rows, get_d_rows}
+use Rattle.inversion.specs.InversionLaws.{length_rows, get_or_rows}
 use Rattle.lines.specs.Steps.{line_by, unscaled, lines_by}
 use Rattle.lines.specs.Behind.{block_before, behind, BehindLent, drawn_behind, FoldBehindLent, folded_behind}
 use Rattle.lines.proofs.Straight.{drawn}
@@ -74,7 +74,7 @@ module _ (f : Choice) where
           → DrawnTo (j + 1) a t w (set out (length t + length t + j) v)
       draw_turn v e =
           let new : v ≡ get_or (to_words (chosen f) (row n g)) j 0 =
-          e ∙ (λ k. word (line_by (chosen f) a (el (get_or t j 0)) (unscaled f (place_behind k)) (el (place_left k)) (el (place_right k)))) ∙ sym (get_d_rows (chosen f) n g j h) in
+          e ∙ (λ k. word (line_by (chosen f) a (el (get_or t j 0)) (unscaled f (place_behind k)) (el (place_left k)) (el (place_right k)))) ∙ sym (get_or_rows (chosen f) n g j h) in
           record {
             within = omega arith;
             size = length-set out (m + j) v ∙ p.size;

@@ -1,4 +1,6 @@
 // Folding a block: at each place the value at the challenge of the line through two words.
+#![tactic(auto)]
+
 ghost use Rattle.std.specs.Prelude.{◌≡◌, ◌+◌, length};
 ghost use Rattle.algebra.specs.WordLists.{Low as LowWords};
 ghost use Rattle.residue.specs.Elements.{P, Low};

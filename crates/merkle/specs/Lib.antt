@@ -1,5 +1,5 @@
 -- Hash trees over any hash of two children.
 --     Tree                THE DEFINITIONS: node, root, path, climb
---     TreeLaws            climb-path: the path of a leaf leads to the root
+--     TreeLaws            climb_path: the path of a leaf leads to the root
 pub mod Tree
 pub mod TreeLaws

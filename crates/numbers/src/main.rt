@@ -1,40 +1,43 @@
 // Runs the order's numbers and writes what comes of them, a line each; the file stdout says what they should be.
+#![tactic(auto)]
 
-fn main() {
-    numbers_ground::readings();
-    numbers_ground::lengths();
-    numbers_ground::ranges();
-    numbers_ground::transforms();
-    numbers_ground::evaluations();
-    numbers_ground::depths();
-    numbers_coding::encodings();
-    numbers_coding::decodings();
-    numbers_coding::refusals();
-    numbers_openings::depth_0();
-    numbers_openings::queries();
-    numbers_openings::repeated();
-    numbers_openings::eq_is_0();
-    numbers_openings::written();
-    numbers_openings::places();
-    numbers_places::inputs();
-    numbers_places::pairs();
-    numbers_places::folds();
-    numbers_places::claims();
-    numbers_second::readings();
-    numbers_second::ranges();
-    numbers_second::transforms();
-    numbers_second::evaluations();
-    numbers_second::encodings();
-    numbers_second::decodings();
-    numbers_filled::verdicts();
-    numbers_filled::filled();
-    numbers_filled::not_filled();
-    numbers_base::encodings();
-    numbers_base::decodings();
-    numbers_base::foldings();
-    numbers_base::written();
-    numbers_base::verdicts();
-    numbers_base::four();
-    numbers_base::sizes();
-    numbers_base::not_filled();
+use std::io;
+
+fn main(rt: HostRuntime) -> io::Result<()> {
+    numbers_ground::readings(&rt)?;
+    numbers_ground::lengths(&rt)?;
+    numbers_ground::ranges(&rt)?;
+    numbers_ground::transforms(&rt)?;
+    numbers_ground::evaluations(&rt)?;
+    numbers_ground::depths(&rt)?;
+    numbers_coding::encodings(&rt)?;
+    numbers_coding::decodings(&rt)?;
+    numbers_coding::refusals(&rt)?;
+    numbers_openings::depth_0(&rt)?;
+    numbers_openings::queries(&rt)?;
+    numbers_openings::repeated(&rt)?;
+    numbers_openings::eq_is_0(&rt)?;
+    numbers_openings::written(&rt)?;
+    numbers_openings::places(&rt)?;
+    numbers_places::inputs(&rt)?;
+    numbers_places::pairs(&rt)?;
+    numbers_places::folds(&rt)?;
+    numbers_places::claims(&rt)?;
+    numbers_second::readings(&rt)?;
+    numbers_second::ranges(&rt)?;
+    numbers_second::transforms(&rt)?;
+    numbers_second::evaluations(&rt)?;
+    numbers_second::encodings(&rt)?;
+    numbers_second::decodings(&rt)?;
+    numbers_filled::verdicts(&rt)?;
+    numbers_filled::filled(&rt)?;
+    numbers_filled::not_filled(&rt)?;
+    numbers_base::encodings(&rt)?;
+    numbers_base::decodings(&rt)?;
+    numbers_base::foldings(&rt)?;
+    numbers_base::written(&rt)?;
+    numbers_base::verdicts(&rt)?;
+    numbers_base::four(&rt)?;
+    numbers_base::sizes(&rt)?;
+    numbers_base::not_filled(&rt)
 }

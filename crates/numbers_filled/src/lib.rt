@@ -1,5 +1,8 @@
 // Openings over the second field, and what the rule fills.
+#![tactic(auto)]
+
 use job::Parameters;
+use std::io;
 use tvarchula::{coding, filling, opening};
 
 // Base messages of one word.
@@ -11,7 +14,7 @@ fn one_word(depth: u32, rate: u32) -> Parameters {
     }
 }
 
-fn verify(text: &[u8], field: bool, y: u32) {
+fn verify(rt: &impl Print, text: &[u8], field: bool, y: u32) -> io::Result<()> {
     let g = [1u32, 1];
     let t = [2u32, 3];
     let t2 = [2013265919u32, 2013265918];
@@ -21,6 +24,7 @@ fn verify(text: &[u8], field: bool, y: u32) {
     let queries = [0u32, 1];
     let opened = [2013265911u32, 36, 152, 33, 33, 33];
     numbers_second::answer(
+        rt,
         text,
         opening::tv_verify_opening(
             field,
@@ -35,52 +39,62 @@ fn verify(text: &[u8], field: bool, y: u32) {
             &queries,
             &opened,
         ),
-    );
+    )
 }
 
-pub fn verdicts() {
-    verify(b"verify y = 26:", true, 26);
-    verify(b"y = 27:", true, 27);
-    verify(b"y = 26, as of the first field:", false, 26);
+pub fn verdicts(rt: &impl Print) -> io::Result<()> {
+    verify(rt, b"verify y = 26:", true, 26)?;
+    verify(rt, b"y = 27:", true, 27)?;
+    verify(rt, b"y = 26, as of the first field:", false, 26)
 }
 
 // At depth 2, its codeword: the values of 1 + 3 X + 2 X^2 + 4 X^3 at the powers of the root of order 8.
-pub fn filled() {
+pub fn filled(rt: &impl Print) -> io::Result<()> {
     let mut g = [0u32; 2];
     let mut t = [0u32; 6];
     let mut t2 = [0u32; 6];
     numbers_second::answer(
+        rt,
         b"fill depth 2, rate 2:",
         filling::tv_fill_roots(one_word(2, 2), &mut g, &mut t, &mut t2),
-    );
-    print::words(b"g", &g);
-    print::words(b"T", &t);
-    print::words(b"T'", &t2);
+    )?;
+    print::words(rt, b"g", &g)?;
+    print::words(rt, b"T", &t)?;
+    print::words(rt, b"T'", &t2)?;
     let message = [1u32, 2, 3, 4];
     let mut block = [0u32; 8];
     numbers_second::answer(
+        rt,
         b"encode 1 2 3 4:",
         coding::tv_encode(true, one_word(2, 2), &g, &t, &t2, &message, &mut block),
-    );
-    print::words(b"codeword", &block);
+    )?;
+    print::words(rt, b"codeword", &block)
 }
 
-fn fill(text: &[u8], depth: u32, rate: u32, g: &mut [u32], t: &mut [u32]) {
+fn fill(
+    rt: &impl Print,
+    text: &[u8],
+    depth: u32,
+    rate: u32,
+    g: &mut [u32],
+    t: &mut [u32],
+) -> io::Result<()> {
     let mut t2 = [7u32; 3];
     numbers_second::answer(
+        rt,
         text,
         filling::tv_fill_roots(one_word(depth, rate), g, t, &mut t2),
-    );
-    print::words(b"g", g);
+    )?;
+    print::words(rt, b"g", g)
 }
 
 // At rate 3 and depth 1 each slice has three words.
-pub fn not_filled() {
+pub fn not_filled(rt: &impl Print) -> io::Result<()> {
     let mut g = [7u32; 3];
     let mut t = [7u32; 3];
     let mut more = [7u32; 4];
-    fill(b"fill depth 21, rate 17:", 21, 17, &mut g, &mut t);
-    fill(b"fill depth 1, rate 17:", 1, 17, &mut g, &mut t);
-    fill(b"fill rate 3, T too long:", 1, 3, &mut g, &mut more);
-    fill(b"fill rate 3:", 1, 3, &mut g, &mut t);
+    fill(rt, b"fill depth 21, rate 17:", 21, 17, &mut g, &mut t)?;
+    fill(rt, b"fill depth 1, rate 17:", 1, 17, &mut g, &mut t)?;
+    fill(rt, b"fill rate 3, T too long:", 1, 3, &mut g, &mut more)?;
+    fill(rt, b"fill rate 3:", 1, 3, &mut g, &mut t)
 }

@@ -1,8 +1,11 @@
 // Clearances, tables and evaluation.
+#![tactic(auto)]
+
 use evaluate::Evaluation;
 use job::{Answer, Parameters, Refusal, sizes};
 use read_clearance::Reading;
 use residue::Field;
+use std::io;
 
 // Base messages of one word.
 fn one_word(depth: u32) -> Parameters {
@@ -13,142 +16,148 @@ fn one_word(depth: u32) -> Parameters {
     }
 }
 
-fn meaning(r: Reading) {
+fn meaning(rt: &impl Print, r: Reading) -> io::Result<()> {
     match r {
-        Reading::Free(n) => print::line(b": free", n),
+        Reading::Free(n) => print::line(rt, b": free", n),
         Reading::Contact => {
-            print::label(b": contact");
-            print::end();
+            print::label(rt, b": contact")?;
+            print::end(rt)
         }
-        Reading::Overlap(n) => print::line(b": overlap", n),
-        Reading::Refused(r) => print::refusal(b": refused", r),
+        Reading::Overlap(n) => print::line(rt, b": overlap", n),
+        Reading::Refused(r) => print::refusal(rt, b": refused", r),
     }
 }
 
-fn read(word: u32) {
-    print::label(b"read");
-    print::number(word);
-    meaning(read_clearance::read_clearance(word, Field::First));
+fn read(rt: &impl Print, word: u32) -> io::Result<()> {
+    print::label(rt, b"read")?;
+    print::number(rt, word)?;
+    meaning(rt, read_clearance::read_clearance(word, Field::First))
 }
 
-pub fn readings() {
-    read(0);
-    read(1);
-    read(1073741823);
-    read(1073741824);
-    read(2147483646);
-    read(2147483647);
+pub fn readings(rt: &impl Print) -> io::Result<()> {
+    read(rt, 0)?;
+    read(rt, 1)?;
+    read(rt, 1073741823)?;
+    read(rt, 1073741824)?;
+    read(rt, 2147483646)?;
+    read(rt, 2147483647)
 }
 
-fn transform(text: &[u8], t: &[i32], m: &mut [u32]) {
+fn transform(rt: &impl Print, text: &[u8], t: &[i32], m: &mut [u32]) -> io::Result<()> {
     print::answer(
+        rt,
         text,
         coefficients::table_to_coefficients(one_word(0), t, m, Field::First),
-    );
+    )
 }
 
-fn three() {
+fn three(rt: &impl Print) -> io::Result<()> {
     let t = [7i32, -7, 0];
     let mut m = [0u32; 3];
-    transform(b"table of 3 entries:", &t, &mut m);
+    transform(rt, b"table of 3 entries:", &t, &mut m)
 }
 
-fn none() {
+fn none(rt: &impl Print) -> io::Result<()> {
     let t = [0i32; 0];
     let mut m = [0u32; 0];
-    transform(b"table of 0 entries:", &t, &mut m);
+    transform(rt, b"table of 0 entries:", &t, &mut m)
 }
 
-fn one() {
+fn one(rt: &impl Print) -> io::Result<()> {
     let t = [7i32];
     let mut m = [0u32; 1];
-    transform(b"table of 1 entry:", &t, &mut m);
-    print::words(b"message", &m);
+    transform(rt, b"table of 1 entry:", &t, &mut m)?;
+    print::words(rt, b"message", &m)
 }
 
-pub fn lengths() {
-    three();
-    none();
-    one();
+pub fn lengths(rt: &impl Print) -> io::Result<()> {
+    three(rt)?;
+    none(rt)?;
+    one(rt)
 }
 
-fn range(text: &[u8], x: i32) {
+fn range(rt: &impl Print, text: &[u8], x: i32) -> io::Result<()> {
     let t = [x];
     let mut m = [0u32; 1];
-    transform(text, &t, &mut m);
+    transform(rt, text, &t, &mut m)
 }
 
-pub fn ranges() {
-    range(b"clearance 1073741823:", 1073741823);
-    range(b"clearance 1073741824:", 1073741824);
-    range(b"clearance -1073741823:", -1073741823);
-    range(b"clearance -1073741824:", -1073741824);
+pub fn ranges(rt: &impl Print) -> io::Result<()> {
+    range(rt, b"clearance 1073741823:", 1073741823)?;
+    range(rt, b"clearance 1073741824:", 1073741824)?;
+    range(rt, b"clearance -1073741823:", -1073741823)?;
+    range(rt, b"clearance -1073741824:", -1073741824)
 }
 
-fn coefficients(text: &[u8], t: &[i32], m: &mut [u32]) {
-    transform(text, t, m);
-    print::words(b"coefficients", m);
+fn coefficients(rt: &impl Print, text: &[u8], t: &[i32], m: &mut [u32]) -> io::Result<()> {
+    transform(rt, text, t, m)?;
+    print::words(rt, b"coefficients", m)
 }
 
-fn back(m: &[u32], t: &mut [i32], work: &mut [u32]) {
+fn back(rt: &impl Print, m: &[u32], t: &mut [i32], work: &mut [u32]) -> io::Result<()> {
     print::answer(
+        rt,
         b"and back:",
         table::coefficients_to_table(one_word(0), m, t, work, Field::First),
-    );
+    )
 }
 
-fn back_and_there(m: &[u32]) {
+fn back_and_there(rt: &impl Print, m: &[u32]) -> io::Result<()> {
     let mut t = [0i32; 4];
     let mut work = [9u32; 4];
-    back(m, &mut t, &mut work);
+    back(rt, m, &mut t, &mut work)?;
     let mut again = [0u32; 4];
-    coefficients(b"and to coefficients again:", &t, &mut again);
-    print::words(b"work", &work);
+    coefficients(rt, b"and to coefficients again:", &t, &mut again)?;
+    print::words(rt, b"work", &work)
 }
 
-pub fn transforms() {
+pub fn transforms(rt: &impl Print) -> io::Result<()> {
     let t = [3i32, 5, 4, 10];
     let mut m = [0u32; 4];
-    coefficients(b"table 3 5 4 10:", &t, &mut m);
-    back_and_there(&m);
+    coefficients(rt, b"table 3 5 4 10:", &t, &mut m)?;
+    back_and_there(rt, &m)
 }
 
-fn value(e: Evaluation) {
+fn value(rt: &impl Print, e: Evaluation) -> io::Result<()> {
     match e {
-        Evaluation::Value(v) => print::line(b" value", v),
-        Evaluation::Refused(r) => print::refusal(b" refused", r),
+        Evaluation::Value(v) => print::line(rt, b" value", v),
+        Evaluation::Refused(r) => print::refusal(rt, b" refused", r),
     }
 }
 
-fn evaluate(text: &[u8], depth: u32, z: u32) {
-    print::label(text);
+fn evaluate(rt: &impl Print, text: &[u8], depth: u32, z: u32) -> io::Result<()> {
+    print::label(rt, text)?;
     let m = [5u32, 7];
     let point = [z];
-    value(evaluate::evaluate(one_word(depth), &m, &point, Field::First));
+    value(
+        rt,
+        evaluate::evaluate(one_word(depth), &m, &point, Field::First),
+    )
 }
 
-pub fn evaluations() {
-    evaluate(b"5 7 at 3:", 1, 3);
-    evaluate(b"5 7 at 2147483646:", 1, 2147483646);
-    evaluate(b"5 7 at 2147483647:", 1, 2147483647);
-    evaluate(b"5 7 at depth 17:", 17, 3);
-    evaluate(b"5 7 at depth 21:", 21, 3);
+pub fn evaluations(rt: &impl Print) -> io::Result<()> {
+    evaluate(rt, b"5 7 at 3:", 1, 3)?;
+    evaluate(rt, b"5 7 at 2147483646:", 1, 2147483646)?;
+    evaluate(rt, b"5 7 at 2147483647:", 1, 2147483647)?;
+    evaluate(rt, b"5 7 at depth 17:", 17, 3)?;
+    evaluate(rt, b"5 7 at depth 21:", 21, 3)
 }
 
 // A depth by itself: the words of one above 13 do not fit into a program's buffers.
-fn depth(text: &[u8], depth: u32) {
+fn depth(rt: &impl Print, text: &[u8], depth: u32) -> io::Result<()> {
     print::answer(
+        rt,
         text,
         job::require(
             sizes::depth_ok(one_word(depth)),
             Refusal::Depth,
             Answer::Done,
         ),
-    );
+    )
 }
 
-pub fn depths() {
-    depth(b"depth 17:", 17);
-    depth(b"depth 20:", 20);
-    depth(b"depth 21:", 21);
+pub fn depths(rt: &impl Print) -> io::Result<()> {
+    depth(rt, b"depth 17:", 17)?;
+    depth(rt, b"depth 20:", 20)?;
+    depth(rt, b"depth 21:", 21)
 }

@@ -1,6 +1,9 @@
 // The same kind of numbers over the second field, p = 2013265921.
+#![tactic(auto)]
+
 use job::Parameters;
 use reply::answer::Reply;
+use std::io;
 use tvarchula::{coding, ground};
 
 // Base messages of one word.
@@ -12,90 +15,95 @@ fn one_word(depth: u32) -> Parameters {
     }
 }
 
-pub fn answer(text: &[u8], a: Reply) {
-    print::label(text);
-    print::places(a.number, a.first, a.second);
+pub fn answer(rt: &impl Print, text: &[u8], a: Reply) -> io::Result<()> {
+    print::label(rt, text)?;
+    print::places(rt, a.number, a.first, a.second)
 }
 
 // Number and places, kind and amount.
-fn read(word: u32) {
+fn read(rt: &impl Print, word: u32) -> io::Result<()> {
     let r = ground::tv_read_clearance(true, word);
-    print::label(b"second field, read");
-    print::number(word);
-    print::number(r.kind);
-    print::number(r.amount);
-    answer(b":", r.answer);
+    print::label(rt, b"second field, read")?;
+    print::number(rt, word)?;
+    print::number(rt, r.kind)?;
+    print::number(rt, r.amount)?;
+    answer(rt, b":", r.answer)
 }
 
-pub fn readings() {
-    read(1006632960);
-    read(1006632961);
-    read(2013265920);
-    read(2013265921);
+pub fn readings(rt: &impl Print) -> io::Result<()> {
+    read(rt, 1006632960)?;
+    read(rt, 1006632961)?;
+    read(rt, 2013265920)?;
+    read(rt, 2013265921)
 }
 
-fn range(text: &[u8], x: i32) {
+fn range(rt: &impl Print, text: &[u8], x: i32) -> io::Result<()> {
     let t = [x];
     let mut m = [0u32; 1];
     answer(
+        rt,
         text,
         ground::tv_table_to_coefficients(true, one_word(0), &t, &mut m),
-    );
+    )
 }
 
-pub fn ranges() {
-    range(b"clearance 1006632960:", 1006632960);
-    range(b"clearance 1006632961:", 1006632961);
-    range(b"clearance -1006632961:", -1006632961);
+pub fn ranges(rt: &impl Print) -> io::Result<()> {
+    range(rt, b"clearance 1006632960:", 1006632960)?;
+    range(rt, b"clearance 1006632961:", 1006632961)?;
+    range(rt, b"clearance -1006632961:", -1006632961)
 }
 
-pub fn transforms() {
+pub fn transforms(rt: &impl Print) -> io::Result<()> {
     let t = [-1i32, 1, 4, -10];
     let mut m = [0u32; 4];
     answer(
+        rt,
         b"table -1 1 4 -10:",
         ground::tv_table_to_coefficients(true, one_word(0), &t, &mut m),
-    );
-    print::words(b"coefficients", &m);
+    )?;
+    print::words(rt, b"coefficients", &m)
 }
 
-fn evaluate(text: &[u8], z: u32) {
+fn evaluate(rt: &impl Print, text: &[u8], z: u32) -> io::Result<()> {
     let m = [5u32, 7];
     let point = [z];
     let mut value = 0u32;
     answer(
+        rt,
         text,
         ground::tv_evaluate(true, one_word(1), &m, &point, &mut value),
-    );
-    print::line(b"value", value);
+    )?;
+    print::line(rt, b"value", value)
 }
 
-pub fn evaluations() {
-    evaluate(b"5 7 at 2013265920:", 2013265920);
-    evaluate(b"5 7 at 2013265921:", 2013265921);
+pub fn evaluations(rt: &impl Print) -> io::Result<()> {
+    evaluate(rt, b"5 7 at 2013265920:", 2013265920)?;
+    evaluate(rt, b"5 7 at 2013265921:", 2013265921)
 }
 
 // T' is -T.
-pub fn encodings() {
+pub fn encodings(rt: &impl Print) -> io::Result<()> {
     let g = [1u32, 1];
     let t = [2u32, 3];
     let t2 = [2013265919u32, 2013265918];
     let message = [5u32, 7];
     let mut block = [0u32; 4];
     answer(
+        rt,
         b"encode 5 7:",
         coding::tv_encode(true, one_word(1), &g, &t, &t2, &message, &mut block),
-    );
-    print::words(b"codeword", &block);
+    )?;
+    print::words(rt, b"codeword", &block)?;
     let mut folded = [0u32; 2];
     answer(
+        rt,
         b"fold by 4:",
         coding::tv_fold(true, one_word(1), &t, &t2, &block, 4, &mut folded),
-    );
-    print::words(b"folded", &folded);
+    )?;
+    print::words(rt, b"folded", &folded)
 }
 
-fn decode(text: &[u8], last: u32) {
+fn decode(rt: &impl Print, text: &[u8], last: u32) -> io::Result<()> {
     let g = [1u32, 1];
     let t = [2u32, 3];
     let t2 = [2013265919u32, 2013265918];
@@ -103,6 +111,7 @@ fn decode(text: &[u8], last: u32) {
     let mut message = [0u32; 2];
     let mut work = [9u32; 4];
     answer(
+        rt,
         text,
         coding::tv_decode(
             true,
@@ -114,12 +123,12 @@ fn decode(text: &[u8], last: u32) {
             &mut message,
             &mut work,
         ),
-    );
-    print::words(b"message", &message);
+    )?;
+    print::words(rt, b"message", &message)
 }
 
-pub fn decodings() {
-    decode(b"decode:", 2013265905);
-    decode(b"decode with the last word 2013265906:", 2013265906);
-    decode(b"decode with the last word 2147483631:", 2147483631);
+pub fn decodings(rt: &impl Print) -> io::Result<()> {
+    decode(rt, b"decode:", 2013265905)?;
+    decode(rt, b"decode with the last word 2013265906:", 2013265906)?;
+    decode(rt, b"decode with the last word 2147483631:", 2147483631)
 }

@@ -1,4 +1,6 @@
 // Writing an opening.
+#![tactic(auto)]
+
 ghost use Rattle.residue.specs.Chosen.{chosen};
 ghost use Rattle.open.specs.Writing.{Wrote};
 
@@ -8,7 +10,7 @@ use residue::Field;
 mod judge;
 
 // The polynomial's value at the point.
-#[derive(Drop)]
+#[derive(Clone, Copy)]
 pub enum Written {
     Value(u32),
     Refused(Refusal),

@@ -1,4 +1,6 @@
 // Pairs re + im i of residues, with i i = -1, and slices that hold them two words a pair.
+#![tactic(auto)]
+
 ghost use Rattle.std.specs.Prelude.{◌≡◌, ◌+◌, ◌*◌, ◌<◌, length, set};
 ghost use Rattle.algebra.specs.Words.{𝔽₁};
 ghost use Rattle.pairs.specs.Pair.{add_p, sub_p, mul_p, real};
@@ -7,7 +9,7 @@ ghost use Rattle.pair.specs.PairWords.{pair_of, pair_at, LowPair, Stands, PairLe
 
 use residue::{Field, Residue};
 
-#[derive(Drop)]
+#[derive(Clone, Copy)]
 pub struct Pair {
     pub re: Residue,
     pub im: Residue,

@@ -14,7 +14,7 @@ use Rattle.foldable.specs.Code.{line, fold_along}
 use Rattle.foldable.specs.Level.{Level, level, length_level, get_or_level}
 use Rattle.residue.specs.ResidueLaws.{stands}
 use Rattle.inversion.specs.Inversion.{gap, gap_inverses}
-use Rattle.inversion.specs.InversionLaws.{get_d_rows, elements_differ}
+use Rattle.inversion.specs.InversionLaws.{get_or_rows, elements_differ}
 use Rattle.pairs.specs.Pair.{Pair as Of, real, add_p, sub_p, mul_p, NoRoot}
 use Rattle.pairs.specs.Square.{square_field}
 use Rattle.pair.specs.declared.Pair.{Pair}
@@ -37,7 +37,7 @@ module _ (𝓕 : PrimeField) where
       stands_at 𝓕
       (ap₂ (λ x y. add_p K u (mul_p K x y)) (d.value ∙ ap (sub_p K a) e.value) (q.value ∙ ap (mul_p K (real K s)) p.value))
 
-module _ (𝓕 : PrimeField) (noRoot : NoRoot 𝓕.field) where
+module _ (𝓕 : PrimeField) (no_root : NoRoot 𝓕.field) where
   infixl 65 ◌⊟◌
   open 𝓕 use {field as F, words as W}
   open F use {ring as K, inv}
@@ -45,7 +45,7 @@ module _ (𝓕 : PrimeField) (noRoot : NoRoot 𝓕.field) where
   open W use {el}
 
   abbrev E : Field
-  E = square_field F noRoot
+  E = square_field F no_root
 
   -- words as real pairs
   abbrev reals : List ℕ → List (Of Element)
@@ -93,7 +93,7 @@ module _ (𝓕 : PrimeField) (noRoot : NoRoot 𝓕.field) where
     module _ (s : List ℕ) (e : take (length t) s ≡ gap_inverses 𝓕 1 (length t) t t2) where
       inverse : (k : ℕ) → k < n → el (get_or s k 0) ≡ inv (el (get_or t2 k 0) ⊟ el (get_or t k 0))
       inverse k h =
-          stands 𝓕 _ (sym (get_or-take n s k 0 h) ∙ ap (λ l. get_or l k 0) e ∙ get_d_rows 𝓕 n (λ i. inv (gap 𝓕 1 t t2 i)) k h)
+          stands 𝓕 _ (sym (get_or-take n s k 0 h) ∙ ap (λ l. get_or l k 0) e ∙ get_or_rows 𝓕 n (λ i. inv (gap 𝓕 1 t t2 i)) k h)
           ∙ ap (λ i. inv (el (get_or t2 i 0) ⊟ el (get_or t i 0))) (mul-one k)
 
       same : (k : ℕ) → k < n
@@ -101,10 +101,10 @@ module _ (𝓕 : PrimeField) (noRoot : NoRoot 𝓕.field) where
       same k h =
           get_or_row n (pair_lines 𝓕 n a t w s) k (real K 𝟘) h
           ∙ ap (λ x. pair_line 𝓕 a (el (get_or t k 0)) x (pair_at 𝓕 w k) (pair_at 𝓕 w (n + k))) (inverse k h)
-          ∙ pair_line_by 𝓕 noRoot a (el (get_or t k 0)) (el (get_or t2 k 0)) (pair_at 𝓕 w k) (pair_at 𝓕 w (n + k)) (apart k h)
+          ∙ pair_line_by 𝓕 no_root a (el (get_or t k 0)) (el (get_or t2 k 0)) (pair_at 𝓕 w k) (pair_at 𝓕 w (n + k)) (apart k h)
           ∙ sym (at k h)
 
-      pub drawn : pair_words 𝓕 (row (length t) (pair_lines 𝓕 (length t) a t w s)) ≡ fold_pair_words 𝓕 noRoot t t2 w a
+      pub drawn : pair_words 𝓕 (row (length t) (pair_lines 𝓕 (length t) a t w s)) ≡ fold_pair_words 𝓕 no_root t t2 w a
       drawn =
           ap (pair_words 𝓕)
           (ext_get_or (real K 𝟘) (row n (pair_lines 𝓕 n a t w s)) (fold_along E n a (reals t) (reals t2) (pairs_of 𝓕 w))

@@ -23,5 +23,5 @@ module _ (𝓕 : PrimeField) where
 
   -- the words of the fold by a, over the pairs
   abbrev pub fold_pair_words : NoRoot F → List ℕ → List ℕ → List ℕ → Pair Element → List ℕ
-  fold_pair_words noRoot t t2 w a =
-      pair_words 𝓕 (fold_along (square_field F noRoot) (length t) a (map (real K) (elements 𝓕 t)) (map (real K) (elements 𝓕 t2)) (pairs_of 𝓕 w))
+  fold_pair_words no_root t t2 w a =
+      pair_words 𝓕 (fold_along (square_field F no_root) (length t) a (map (real K) (elements 𝓕 t)) (map (real K) (elements 𝓕 t2)) (pairs_of 𝓕 w))

@@ -15,7 +15,7 @@ use Rattle.pair.specs.PairWords.{pairs_of, pair_words}
 use Rattle.pair_fold.specs.Steps.{pair_line}
 use Rattle.pair_fold.specs.Folding.{fold_pair_words}
 
-module _ (𝓕 : PrimeField) (noRoot : NoRoot 𝓕.field) where
+module _ (𝓕 : PrimeField) (no_root : NoRoot 𝓕.field) where
   infixl 65 ◌⊟◌
   open 𝓕 use {field as F}
   open F use {ring as K, inv}
@@ -23,12 +23,12 @@ module _ (𝓕 : PrimeField) (noRoot : NoRoot 𝓕.field) where
 
   -- the pairs
   abbrev E : Field
-  E = square_field F noRoot
+  E = square_field F no_root
 
   -- the inverse of a real difference is real
   real_inverse : (t t' : Element) → (t ≡ t' → ⊥) → real K (inv (t' ⊟ t)) ≡ inv_p F (sub_p K (real K t') (real K t))
   real_inverse t t' h =
-      let H = real_homomorphism F noRoot in
+      let H = real_homomorphism F no_root in
       inverse_unique E (sub_p K (real K t') (real K t)) (real K (inv (t' ⊟ t)))
       (ap (λ d. mul_p K d (real K (inv (t' ⊟ t)))) (sym (difference_image F E (real K) H t' t))
       ∙ sym (H.product (t' ⊟ t) (inv (t' ⊟ t))) ∙ ap (real K) (unit_difference F h) ∙ H.one)
@@ -42,6 +42,6 @@ module _ (𝓕 : PrimeField) (noRoot : NoRoot 𝓕.field) where
 
   -- where a code has the lent diagonals at level i
   pub fold_pair_words_lem : (C : Code F) (i : ℕ) (t t2 w : List ℕ) (a : Pair Element) → C.T i ≡ elements 𝓕 t → C.T' i ≡ elements 𝓕 t2 → length t ≡ size F C i
-      → fold_pair_words 𝓕 noRoot t t2 w a ≡ pair_words 𝓕 (fold E (extend F E (real K) C) i a (pairs_of 𝓕 w))
+      → fold_pair_words 𝓕 no_root t t2 w a ≡ pair_words 𝓕 (fold E (extend F E (real K) C) i a (pairs_of 𝓕 w))
   unfolding fold
   fold_pair_words_lem C i t t2 w a p q e = sym (λ k. pair_words 𝓕 (fold_along E (sym e k) a (map (real K) (p k)) (map (real K) (q k)) (pairs_of 𝓕 w)))

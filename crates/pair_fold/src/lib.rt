@@ -1,4 +1,6 @@
 // A block of pairs folded by one level, by a pair as challenge. The diagonals are words: real.
+#![tactic(auto)]
+
 ghost use Rattle.std.specs.Prelude.{◌≡◌};
 ghost use Rattle.algebra.specs.Words.{𝔽₁};
 ghost use Rattle.pairs.specs.Root.{no_root₁};

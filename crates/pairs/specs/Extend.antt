@@ -10,13 +10,13 @@ use Rattle.pairs.specs.Square.{pair_path, square_field}
 use Rattle.pairs.specs.Linear.{legal, Linear, encode_linear, fold_linear}
 use Rattle.pairs.specs.Homomorphism.{plain, plain_code, Homomorphism, embedding, encode_image, fold_image}
 
-module _ (F : Field) (noRoot : NoRoot F) where
+module _ (F : Field) (no_root : NoRoot F) where
   open F use {ring as K}
   open K use {R, 𝟘}
 
   -- the pairs
   abbrev E : Field
-  E = square_field F noRoot
+  E = square_field F no_root
 
   -- F among the pairs, and the maps back
   pub real_homomorphism : Homomorphism F E (real K)

@@ -71,7 +71,7 @@ module _ (K : Ring) where
     mul-add = mul_add_p;
   }
 
-module _ (F : Field) (noRoot : NoRoot F) where
+module _ (F : Field) (no_root : NoRoot F) where
   infixl 65 ◌+◌
   infixl 65 ◌-◌
   infixl 70 ◌*◌
@@ -85,7 +85,7 @@ module _ (F : Field) (noRoot : NoRoot F) where
       go : Dec (b ≡ 𝟘) → b ≡ 𝟘
       go (yes z) = z
       go (no n) =
-          absurd (noRoot (a * inv b)
+          absurd (no_root (a * inv b)
           (from₂ K (inv b * inv b) e (neg (b * inv b) - 𝟙) (mul_inv b n)
           (algebra K (a ∷ b ∷ inv b ∷ []) (search quote depth 20) refl)))
 

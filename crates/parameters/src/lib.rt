@@ -1,4 +1,6 @@
 // What one pass over a base matrix and the diagonals of all levels finds of their words.
+#![tactic(auto)]
+
 ghost use Rattle.std.specs.Prelude.{◌≡◌, ◌&&◌};
 ghost use Rattle.residue.specs.Chosen.{chosen};
 ghost use Rattle.words.specs.Scans.{all_below};
@@ -8,7 +10,7 @@ use residue::Field;
 use words::scan;
 
 // What one pass over base matrix and diagonals finds, where all lengths are right.
-#[derive(Drop)]
+#[derive(Clone, Copy)]
 pub struct RowScan {
     // All words of g, t and t2 are below the modulus.
     pub words: bool,

@@ -1,4 +1,6 @@
 // Passes over blocks in loose words: below twice the modulus, and divided by scale once for each pass.
+#![tactic(auto)]
+
 ghost use Rattle.std.specs.Prelude.{◌≤◌};
 ghost use Rattle.algebra.specs.WordLists.{elements};
 ghost use Rattle.foldable.specs.Lift.{lift as lifted};

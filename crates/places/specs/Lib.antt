@@ -1,9 +1,9 @@
 -- Where a test fails first, so that a refusal can name the place.
---     Places         THE DEFINITIONS: First, first_place, placeOf, placeOf₂; high_place, zero_place, equal_place
---     PlaceLaws      the search finds the first place: first-only, first-none; from the flag of a scan: place-first, place-none, place₂-first, place₂-none
+--     Places         THE DEFINITIONS: First, first_place, place_of, place_of₂; high_place, zero_place, equal_place
+--     PlaceLaws      the search finds the first place: first_only, first_none; from the flag of a scan: place_first, place_none, place₂_first, place₂_none
 --     Inputs         THE DEFINITIONS: below, judge_words (4), no_zero (5), no_equal (6); what they name: FirstWord, FirstZero, FirstEqual
---     InputLaws      word-named, zero-named, equal-named: each is refused with a place exactly where that is the first
---     FlagLaws       flags first: words-flagged, equal-flagged; one-word
+--     InputLaws      word_named, zero_named, equal_named: each is refused with a place exactly where that is the first
+--     FlagLaws       flags first: words_flagged, equal_flagged; one_word
 pub mod Places
 pub mod PlaceLaws
 pub mod Inputs

@@ -1,4 +1,6 @@
 // Where a test of words fails first. A job looks for the place only once it refuses, so these searches stop at what they find.
+#![tactic(auto)]
+
 ghost use Rattle.std.specs.Prelude.{◌≡◌, min};
 ghost use Rattle.places.specs.Places.{high_place, zero_place, equal_place};
 

@@ -1,4 +1,6 @@
 // The value of the multilinear polynomial whose coefficients a message holds.
+#![tactic(auto)]
+
 ghost use Rattle.std.specs.Prelude.{◌≡◌};
 ghost use Rattle.algebra.specs.WordLists.{elements};
 ghost use Rattle.multilinear.specs.Polynomial.{poly};

@@ -1,57 +1,56 @@
 // Lines of a label and numbers.
+#![tactic(auto)]
+
 use job::{Answer, Refusal};
-use libc::STDOUT_FILENO;
+use std::io;
 
-pub fn label(text: &[u8]) {
-    io::write_all(STDOUT_FILENO, text);
+pub fn label(rt: &impl Print, text: &[u8]) -> io::Result<()> {
+    rt.write_all(text)
 }
 
-pub fn number(n: u32) {
-    io::write_all(STDOUT_FILENO, b" ");
-    io::print_decimal(STDOUT_FILENO, n as u64);
+pub fn number(rt: &impl Print, n: u32) -> io::Result<()> {
+    print!(rt; " {n}")
 }
 
-pub fn end() {
-    io::write_all(STDOUT_FILENO, b"\n");
+pub fn end(rt: &impl Print) -> io::Result<()> {
+    println!(rt)
 }
 
-pub fn line(text: &[u8], n: u32) {
-    label(text);
-    number(n);
-    end();
+pub fn line(rt: &impl Print, text: &[u8], n: u32) -> io::Result<()> {
+    label(rt, text)?;
+    number(rt, n)?;
+    end(rt)
 }
 
-pub fn words(text: &[u8], s: &[u32]) {
-    label(text);
-    let mut i = 0;
-    while i < s.len() {
-        number(s[i]);
-        i += 1;
+pub fn words(rt: &impl Print, text: &[u8], s: &[u32]) -> io::Result<()> {
+    label(rt, text)?;
+    for n in s {
+        number(rt, *n)?;
     }
-    end();
+    end(rt)
 }
 
 // A number and its places.
-pub fn places(n: u32, first: u32, second: u32) {
-    number(n);
-    number(first);
-    number(second);
-    end();
+pub fn places(rt: &impl Print, n: u32, first: u32, second: u32) -> io::Result<()> {
+    number(rt, n)?;
+    number(rt, first)?;
+    number(rt, second)?;
+    end(rt)
 }
 
-pub fn refusal(text: &[u8], r: Refusal) {
-    label(text);
+pub fn refusal(rt: &impl Print, text: &[u8], r: Refusal) -> io::Result<()> {
+    label(rt, text)?;
     let n = job::numbers_of(r);
-    places(n.number, n.first, n.second);
+    places(rt, n.number, n.first, n.second)
 }
 
 // An answer's number and places.
-pub fn answer(text: &[u8], a: Answer) {
+pub fn answer(rt: &impl Print, text: &[u8], a: Answer) -> io::Result<()> {
     match a {
         Answer::Done => {
-            label(text);
-            places(0, 0, 0);
+            label(rt, text)?;
+            places(rt, 0, 0, 0)
         }
-        Answer::Refused(r) => refusal(text, r),
+        Answer::Refused(r) => refusal(rt, text, r),
     }
 }

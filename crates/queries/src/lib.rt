@@ -1,4 +1,6 @@
 // The one place where a query list is judged.
+#![tactic(auto)]
+
 ghost use Rattle.std.specs.Prelude.{◌≡◌, true};
 ghost use Rattle.job.specs.Outcome.{outcome};
 ghost use Rattle.job.specs.Sizes.{in_limits, base_size};

@@ -1,4 +1,6 @@
 // Reading a residue as a clearance.
+#![tactic(auto)]
+
 ghost use Rattle.std.specs.Prelude.{◌≡◌};
 ghost use Rattle.residue.specs.Chosen.{chosen};
 ghost use Rattle.read_clearance.specs.Reading.{reading, reading_outcome};
@@ -7,7 +9,7 @@ use job::{Input, Refusal};
 use residue::{Field, Parsed, Residue};
 
 // Contact has no distance: a parcel that touches must not be passed.
-#[derive(Drop)]
+#[derive(Clone, Copy)]
 pub enum Reading {
     Free(u32),
     Contact,

@@ -6,7 +6,7 @@ ghost use Rattle.reply.specs.Replies.{triple, reply};
 use job::{Answer, Refusal};
 
 #[repr(C)]
-#[derive(Drop)]
+#[derive(Clone, Copy)]
 pub struct Reply {
     pub number: u32,
     pub first: u32,

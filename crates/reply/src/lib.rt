@@ -1,4 +1,5 @@
 // What C and Rust are told: answers as numbers, and the field that a call names.
+#![tactic(auto)]
 
 pub mod answer;
 pub mod field;

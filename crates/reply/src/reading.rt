@@ -11,7 +11,7 @@ use read_clearance::Reading;
 
 // kind is 1 for free, 2 for an overlap, 3 for contact, whose amount is 0; kind and amount are 0 where the word is refused.
 #[repr(C)]
-#[derive(Drop)]
+#[derive(Clone, Copy)]
 pub struct ReadingReply {
     pub answer: Reply,
     pub kind: u32,

@@ -1,5 +1,7 @@
 // Encoding with one base row of at most 16 words. What the passes divide by is multiplied into the row before them, once:
 // the base blocks are made in loose words too, and at the end words are only settled.
+#![tactic(auto)]
+
 ghost use Rattle.std.specs.Prelude.{◌≡◌, ◌+◌, ◌≤◌, length, take};
 ghost use Rattle.algebra.specs.WordLists.{Low as LowWords, elements, to_words};
 ghost use Rattle.foldable.specs.Lift.{lift as lifted, spread as spreads};

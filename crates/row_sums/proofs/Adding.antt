@@ -6,7 +6,7 @@ use native.Mathlib.Omega.{arith}
 use lib.ListN.{length, get_or, length-map}
 use Rattle.algebra.specs.Vector.{vectors, length_mix, get_or_mix, get_or_multiple}
 use Rattle.algebra.specs.Words.{PrimeField}
-use Rattle.algebra.specs.WordLists.{elements, to_words, length_elements, length_words_lem, get_or_elements, get_d_words}
+use Rattle.algebra.specs.WordLists.{elements, to_words, length_elements, length_words_lem, get_or_elements, get_or_words}
 use Rattle.residue.specs.Elements.{product, sum_product}
 use Rattle.residue.specs.ResidueLaws.{stands}
 use Rattle.row_sums.specs.Sums.{added_scaled, sum_of_two, two_scaled, TwoLent}
@@ -26,7 +26,7 @@ module _ (𝓕 : PrimeField) (a : ℕ) (g w : List ℕ) (size : length w ≡ len
   pub added_at : (i : ℕ) → i < length g → get_or (added_scaled 𝓕 a g w) i 0 ≡ sum_product 𝓕 (get_or w i 0) a (get_or g i 0)
   unfolding added_scaled
   added_at i h =
-      get_d_words 𝓕 _ i
+      get_or_words 𝓕 _ i
       ∙ ap word
       (get_or_mix K (el a) (elements 𝓕 w) (elements 𝓕 g) i (omega (arith, length_elements 𝓕 w)) (omega (arith, length_elements 𝓕 g))
       ∙ ap₂ (λ x y. x ⊞ el a ⊠ y) (get_or_elements 𝓕 w i) (get_or_elements 𝓕 g i))
@@ -48,7 +48,7 @@ module _ (𝓕 : PrimeField) where
   length_scaled a g = length_words_lem 𝓕 _ ∙ length-map (elements 𝓕 g) _ ∙ length_elements 𝓕 g
 
   scaled_at : (a : ℕ) (g : List ℕ) (i : ℕ) → get_or (scaled a g) i 0 ≡ product 𝓕 a (get_or g i 0)
-  scaled_at a g i = get_d_words 𝓕 _ i ∙ ap word (get_or_multiple K (el a) (elements 𝓕 g) i ∙ ap (λ x. el a ⊠ x) (get_or_elements 𝓕 g i))
+  scaled_at a g i = get_or_words 𝓕 _ i ∙ ap word (get_or_multiple K (el a) (elements 𝓕 g) i ∙ ap (λ x. el a ⊠ x) (get_or_elements 𝓕 g i))
 
   module _ {a b : ℕ} {g h w : List ℕ} (𝓣 : TwoLent 𝓕 a b g h w) where
     first_size : length (scaled a g) ≡ length h

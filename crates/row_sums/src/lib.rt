@@ -1,4 +1,6 @@
 // Sums of two or four rows of words, each times a factor. Four are two and then two more: of four products a word over the second field the compiler makes no vectors.
+#![tactic(auto)]
+
 ghost use Rattle.std.specs.Prelude.{◌≡◌, map, ◌<◌};
 ghost use Rattle.residue.specs.Elements.{P, Low, product, sum_product};
 ghost use Rattle.residue.specs.Chosen.{chosen};

@@ -1,4 +1,6 @@
 // SHA-256 of one block (FIPS 180-4): the hash value after it from the hash value before.
+#![tactic(auto)]
+
 ghost use Rattle.std.specs.Prelude.{◌≡◌, length};
 ghost use Rattle.sha256_block.specs.Constants.{H₀};
 ghost use Rattle.sha256_block.specs.Compression.{compressed};
@@ -8,7 +10,7 @@ mod rounds;
 mod schedule;
 
 // Eight words: the working variables, or a hash value.
-#[derive(Drop)]
+#[derive(Clone, Copy)]
 pub struct State {
     pub a: u32,
     pub b: u32,

@@ -1,4 +1,6 @@
 // Words of 32 bits as SHA-256 uses them (FIPS 180-4): sums, rotations, the six functions of 4.1.2, and the word of four bytes.
+#![tactic(auto)]
+
 ghost use Rattle.std.specs.Prelude.{◌≡◌, ◌+◌, ◌*◌, ◌^◌, ◌<◌, ◌≤◌, length};
 ghost use Rattle.sha256_words.specs.Words.{◌⊞◌, ROTR, Ch, Maj, Σ0, Σ1, σ0, σ1, word_at};
 

@@ -10,7 +10,7 @@ use Rattle.algebra.specs.Filling.{Filled, filled_length, filled_old, filled_new,
 use Rattle.algebra.specs.Order.{lt_or_ge}
 use Rattle.algebra.specs.Vector.{length_mix, get_or_mix}
 use Rattle.algebra.specs.Words.{PrimeField}
-use Rattle.algebra.specs.WordLists.{elements, to_words, length_elements, length_words_lem, get_or_elements, get_d_words}
+use Rattle.algebra.specs.WordLists.{elements, to_words, length_elements, length_words_lem, get_or_elements, get_or_words}
 use Rattle.multilinear.specs.Folding.{fold_message}
 use Rattle.residue.specs.declared.Residue.{Residue}
 use Rattle.residue.specs.Elements.{elem}
@@ -49,7 +49,7 @@ module _ (𝓕 : PrimeField) where
     folded_front_at j h =
         let E = elements 𝓕 m in
         get_or-append front (drop half m) 0 j (omega (arith, length_front))
-        ∙ get_d_words 𝓕 _ j
+        ∙ get_or_words 𝓕 _ j
         ∙ ap word
         (get_or_mix K (elem 𝓕 a) (take half E) (drop half E) j (omega (arith, length_left)) (omega (arith, length_right))
         ∙ ap₂ (λ x y. x ⊞ elem 𝓕 a ⊠ y) (get_or-take half E j K.𝟘 h ∙ get_or_elements 𝓕 m j) (get_or-drop half E j K.𝟘 ∙ get_or_elements 𝓕 m (half + j)))

@@ -1,5 +1,7 @@
 // What a writer of openings does whatever a base message is: begin, send a round, fold what is left, weigh.
 // What is left of the message lies in the front of the work buffer. The weight is eq of the variables whose challenges are put in.
+#![tactic(auto)]
+
 ghost use Rattle.std.specs.Prelude.{◌≡◌, ◌++◌, suc, ◌≤◌, length, drop};
 ghost use Rattle.residue.specs.Chosen.{chosen};
 ghost use Rattle.algebra.specs.Lists.{put};

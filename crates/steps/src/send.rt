@@ -23,7 +23,7 @@ fn value_at(
     weigh::weigh(w, z, x, field).times(left.plus_product(x, right, field), field)
 }
 
-#[derive(Drop)]
+#[derive(Clone, Copy)]
 pub struct Ends {
     pub left: Residue,
     pub right: Residue,

@@ -4,7 +4,7 @@ use Rattle.std.proofs.Common.{ap₂, eq-eqb, eqb-true}
 use Rattle.algebra.specs.Words.{PrimeField}
 use Rattle.algebra.specs.Tests.{and_both}
 use Rattle.job.specs.Outcome.{done}
-use Rattle.job.specs.OutcomeLaws.{pass, holds, pass_demand, require_done, demand_done}
+use Rattle.job.specs.OutcomeLaws.{pass, pass_demand, require_done, demand_done}
 use Rattle.job.specs.Sizes.{k0_ok}
 use Rattle.words.specs.Scans.{all_below}
 use Rattle.table_length.specs.Depth.{is_power, table_ok}

@@ -1,4 +1,6 @@
 // From the coefficients of a polynomial to its table of clearances.
+#![tactic(auto)]
+
 ghost use Rattle.std.specs.Prelude.{◌≡◌, true, length, replicate};
 ghost use Rattle.algebra.specs.WordLists.{Low};
 ghost use Rattle.job.specs.Outcome.{outcome};
@@ -35,8 +37,8 @@ fn judge(p: Parameters, m: &[u32], table: usize, work: usize, field: Field) -> A
 }
 
 fn find(message: &[u32], clearances: &mut [i32], work: &mut [u32], field: Field)
-    requires message_value { (is_power (length message.now) ≡ true) × Low (P (chosen field)) message.now }
-    requires clearances_len { (length clearances.old ≡ length message.now) × (length work.old ≡ length message.now) }
+    requires message { (is_power (length message.now) ≡ true) × Low (P (chosen field)) message.now }
+    requires lengths { (length clearances.old ≡ length message.now) × (length work.old ≡ length message.now) }
     ensures { (clearances.new ≡ table_of (chosen field) message.now) × (work.new ≡ replicate (length work.old) 0) }
 {
     let depth = table_length::depth_of(message.len());

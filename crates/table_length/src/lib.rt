@@ -1,4 +1,6 @@
 // Which lengths a table may have, and the depth of one.
+#![tactic(auto)]
+
 ghost use Rattle.std.specs.Prelude.{◌≡◌, true};
 ghost use Rattle.job.specs.Sizes.{sound_k};
 ghost use Rattle.table_length.specs.Depth.{is_power, exponent, table_ok};

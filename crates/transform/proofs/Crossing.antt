@@ -7,10 +7,10 @@ use native.Mathlib.Decide.{dec_lt}
 use native.Mathlib.Omega.{arith}
 use lib.ListN.{length, get_or, take, drop, set, length-append, length-drop, get_or-append}
 use lib.Seq.{get_or-take, get_or-drop, get_or-append-add, ext_get_or, length-take-le}
-use Rattle.algebra.specs.Lists.{zip, length_zip, get_d_zip}
+use Rattle.algebra.specs.Lists.{zip, length_zip, get_or_zip}
 use Rattle.algebra.specs.Filling.{Filled, fill, length_fill, fill_old, fill_new, filled_length, filled_old, filled_new, filled_turn, filled_end}
 use Rattle.algebra.specs.Words.{PrimeField}
-use Rattle.algebra.specs.WordLists.{Low, elements, to_words, length_elements, length_words_lem, get_or_elements, get_d_words}
+use Rattle.algebra.specs.WordLists.{Low, elements, to_words, length_elements, length_words_lem, get_or_elements, get_or_words}
 use Rattle.transform.specs.Passes.{crossed}
 
 -- where the first i elements are not new, nothing is written yet
@@ -58,7 +58,7 @@ module _ (𝓕 : PrimeField) where
     changed_left : Low P ws → (k : ℕ) → k < h → get_or (changed f h ws) k 0 ≡ get_or ws k 0
     unfolding crossed
     changed_left low k p =
-        get_d_words 𝓕 (crossed f h (elements 𝓕 ws)) k
+        get_or_words 𝓕 (crossed f h (elements 𝓕 ws)) k
         ∙ ap word
         (get_or-append (take h (elements 𝓕 ws)) _ K.𝟘 k (omega (arith, left))
         ∙ get_or-take h (elements 𝓕 ws) k K.𝟘 p ∙ get_or_elements 𝓕 ws k)
@@ -67,11 +67,11 @@ module _ (𝓕 : PrimeField) where
     changed_right : (j : ℕ) → j < h → get_or (changed f h ws) (h + j) 0 ≡ word (f (el (get_or ws j 0)) (el (get_or ws (h + j) 0)))
     unfolding crossed
     changed_right j p =
-        get_d_words 𝓕 (crossed f h (elements 𝓕 ws)) (h + j)
+        get_or_words 𝓕 (crossed f h (elements 𝓕 ws)) (h + j)
         ∙ ap word
         (ap (λ n. get_or (crossed f h (elements 𝓕 ws)) (n + j) K.𝟘) (sym left)
         ∙ get_or-append-add (take h (elements 𝓕 ws)) _ j K.𝟘
-        ∙ get_d_zip f (take h (elements 𝓕 ws)) (drop h (elements 𝓕 ws)) K.𝟘 K.𝟘 K.𝟘 j (omega (arith, left)) (omega (arith, right))
+        ∙ get_or_zip f (take h (elements 𝓕 ws)) (drop h (elements 𝓕 ws)) K.𝟘 K.𝟘 K.𝟘 j (omega (arith, left)) (omega (arith, right))
         ∙ ap₂ f (get_or-take h (elements 𝓕 ws) j K.𝟘 p ∙ get_or_elements 𝓕 ws j) (get_or-drop h (elements 𝓕 ws) j K.𝟘 ∙ get_or_elements 𝓕 ws (h + j)))
 
     pub crossing_none : Low P ws → Crossing f h ws 0 ws

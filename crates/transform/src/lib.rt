@@ -1,4 +1,6 @@
 // The transform between a table and its coefficients in place, one pass a variable.
+#![tactic(auto)]
+
 ghost use Rattle.std.specs.Prelude.{◌≡◌, ◌+◌, ◌*◌, ◌^◌, ◌<◌, length};
 ghost use Rattle.algebra.specs.WordLists.{Low, elements, to_words};
 ghost use Rattle.residue.specs.Elements.{P, word, el};
@@ -8,7 +10,7 @@ ghost use Rattle.transform.specs.Passes.{across, crossed, blocks, passes};
 use residue::Field;
 use words::entry;
 
-#[derive(Drop)]
+#[derive(Clone, Copy)]
 pub enum Way {
     ToCoefficients,
     ToTable,

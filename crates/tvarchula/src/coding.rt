@@ -5,8 +5,7 @@ use job::Parameters;
 use reply::answer::Reply;
 use reply::{answer, field};
 
-#[unsafe(no_mangle)]
-pub extern "C" fn tv_encode(
+pub fn tv_encode(
     field: bool,
     p: Parameters,
     g: &[u32],
@@ -20,8 +19,7 @@ pub extern "C" fn tv_encode(
     answer::plain(encode::encode(p, g, t, t2, message, block, field::named(field)))
 }
 
-#[unsafe(no_mangle)]
-pub extern "C" fn tv_decode(
+pub fn tv_decode(
     field: bool,
     p: Parameters,
     g: &[u32],
@@ -36,8 +34,7 @@ pub extern "C" fn tv_decode(
     answer::plain(decode::decode::decode(p, g, t, t2, block, message, work, field::named(field)))
 }
 
-#[unsafe(no_mangle)]
-pub extern "C" fn tv_fold(
+pub fn tv_fold(
     field: bool,
     p: Parameters,
     t: &[u32],

@@ -5,13 +5,7 @@ use job::Parameters;
 use reply::answer;
 use reply::answer::Reply;
 
-#[unsafe(no_mangle)]
-pub extern "C" fn tv_fill_roots(
-    p: Parameters,
-    g: &mut [u32],
-    t: &mut [u32],
-    t2: &mut [u32],
-) -> Reply
+pub fn tv_fill_roots(p: Parameters, g: &mut [u32], t: &mut [u32], t2: &mut [u32]) -> Reply
     ensures { FillCall p.depth p.rate p.k0 g.old t.old t2.old result g.new t.new t2.new }
 {
     answer::plain(fill_roots::fill_roots(p, g, t, t2))

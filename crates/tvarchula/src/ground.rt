@@ -9,15 +9,13 @@ use reply::answer::Reply;
 use reply::reading::ReadingReply;
 use reply::{answer, field, reading};
 
-#[unsafe(no_mangle)]
-pub extern "C" fn tv_read_clearance(field: bool, word: u32) -> ReadingReply
+pub fn tv_read_clearance(field: bool, word: u32) -> ReadingReply
     ensures { result ≡ reading_reply (reading_of (field_of field) word) }
 {
     reading::told(read_clearance::read_clearance(word, field::named(field)))
 }
 
-#[unsafe(no_mangle)]
-pub extern "C" fn tv_table_to_coefficients(
+pub fn tv_table_to_coefficients(
     field: bool,
     p: Parameters,
     clearances: &[i32],
@@ -28,8 +26,7 @@ pub extern "C" fn tv_table_to_coefficients(
     answer::plain(coefficients::table_to_coefficients(p, clearances, message, field::named(field)))
 }
 
-#[unsafe(no_mangle)]
-pub extern "C" fn tv_coefficients_to_table(
+pub fn tv_coefficients_to_table(
     field: bool,
     p: Parameters,
     message: &[u32],
@@ -41,14 +38,7 @@ pub extern "C" fn tv_coefficients_to_table(
     answer::plain(table::coefficients_to_table(p, message, clearances, work, field::named(field)))
 }
 
-#[unsafe(no_mangle)]
-pub extern "C" fn tv_evaluate(
-    field: bool,
-    p: Parameters,
-    message: &[u32],
-    z: &[u32],
-    value: &mut u32,
-) -> Reply
+pub fn tv_evaluate(field: bool, p: Parameters, message: &[u32], z: &[u32], value: &mut u32) -> Reply
     ensures { EvaluateCall (field_of field) p.depth p.k0 message.now z.now value.old result value.new }
 {
     let e = evaluate::evaluate(p, message, z, field::named(field));

@@ -1,4 +1,5 @@
 // What C and Rust call: one function for each job.
+#![tactic(auto)]
 
 pub mod coding;
 pub mod filling;

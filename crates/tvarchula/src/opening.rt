@@ -9,8 +9,7 @@ use open::Written;
 use reply::answer::Reply;
 use reply::{answer, field, verifying};
 
-#[unsafe(no_mangle)]
-pub extern "C" fn tv_write_opening(
+pub fn tv_write_opening(
     field: bool,
     p: Parameters,
     g: &[u32],
@@ -50,8 +49,7 @@ pub extern "C" fn tv_write_opening(
     }
 }
 
-#[unsafe(no_mangle)]
-pub extern "C" fn tv_verify_opening<'a>(
+pub fn tv_verify_opening<'a>(
     field: bool,
     p: Parameters,
     g: &[u32],

@@ -27,7 +27,7 @@ fn uncross(n: usize, a: usize, c: usize, t: &[u32], w: &mut [u32], field: Field)
 }
 
 // Half a column of a level, where the level's diagonal begins, and how many inverses stand before its own.
-#[derive(Drop)]
+#[derive(Clone, Copy)]
 pub struct ColumnHalf {
     pub half: usize,
     pub skip: usize,

@@ -1,4 +1,5 @@
 // One column of a block, with the levels of the code undone.
+#![tactic(auto)]
 
 pub mod column;
 pub mod levels;

@@ -1,2 +1,4 @@
 // The check of a fold at one place.
+#![tactic(auto)]
+
 pub mod folds;

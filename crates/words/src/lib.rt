@@ -1,4 +1,6 @@
 // Slices of words: arithmetic on their entries, tests of them, and whole slices written.
+#![tactic(auto)]
+
 ghost use Rattle.std.specs.Prelude.{◌≡◌, length, replicate};
 
 pub mod entry;

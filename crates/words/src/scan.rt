@@ -60,7 +60,7 @@ pub fn shorter(a: usize, b: usize) -> usize
 }
 
 // What one pass over two slices finds.
-#[derive(Drop)]
+#[derive(Clone, Copy)]
 pub struct PairScan {
     // Each word of both is below the modulus.
     pub below: bool,

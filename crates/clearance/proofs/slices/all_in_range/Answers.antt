@@ -1,0 +1,41 @@
+use mathlib.Core.Path.{ap, ap₂, ◌∙◌}
+use mathlib.Core.Bool.{Bool}
+use native.Mathlib.Omega.{arith}
+use lib.IntN.{ℤ, pos, ◌-ℤ◌}
+use lib.ListN.{get_or}
+use borrow.Author.Rules.{rules}
+use Rattle.algebra.specs.Tests.{all, all_none, all_turn, all_end}
+use Rattle.residue.specs.Chosen.{chosen, most}
+use Rattle.clearance.specs.Clearances.{between}
+use Rattle.clearance.proofs.Signs.{Read, read_any, Limits, limits}
+use Rattle.clearance.proofs.slices.all_in_range.Goals as goal
+use Rattle.clearance.proofs.slices.all_in_range.Goals.{After-max_clearance-max}
+
+-- the test of a turn, and its numbers
+abbrev test : After-max_clearance-max → ℤ → Bool
+test c x = let max = c.max_clearance-max.result in between (Read (pos 0 -ℤ Read max)) (Read max) x
+
+within : (c : After-max_clearance-max) → Limits (chosen c.args.field) c.max_clearance-max.result
+within c = let f = c.args.field in limits (chosen f) (most f) _ c.max_clearance-max.ensures
+
+pub overflow_sub-min : goal.overflow_sub-min
+overflow_sub-min c = (within c).fits
+
+pub loop-i-init : goal.loop-i-init
+loop-i-init c = (omega arith, all_none (test c) c.args.s.now)
+
+pub loop-i-preserved : goal.loop-i-preserved
+loop-i-preserved c =
+    let l = c.loop-i in
+    let m = c.before.before.before.before in
+    let s = c.args.s.now in
+    let read = ap (test m) (read_any (get_or s l.i (pos 0)) c.in_range-arg-1.given) in
+    (omega arith, all_turn (test m) l.i s (pos 0) (search rules) l.invariant.1 (c.in_range-ok.ensures ∙ read))
+
+pub returns : goal.returns
+returns c =
+    let l = c.loop-i in
+    let m = c.before.before in
+    let s = c.args.s.now in
+    let w = within m in
+    all_end (test m) l.i s (omega arith) l.invariant.1 ∙ ap₂ (λ low high. all (between low high) s) w.low w.high

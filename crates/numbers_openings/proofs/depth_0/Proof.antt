@@ -1,6 +1,0 @@
-use mathlib.Core.Path.{refl}
-use Rattle.numbers_openings.proofs.depth_0.Statement.{statement}
-use Rattle.numbers_openings.proofs.depth_0.Tie as tie
-
-pub depth-0-spec : {M : Type 1} → statement M
-depth-0-spec = tie.close (tie.spec (λ c. refl) (λ c. refl) (λ c κs. tt) (λ c. refl) (λ c. refl) (λ c κs. tt) (λ c. refl) (λ c. refl) (λ c κs. tt) (λ c. tt))

@@ -1,0 +1,12 @@
+use mathlib.Core.Path.{refl}
+use Rattle.algebra.specs.Flags.{stops, goes}
+use Rattle.open.specs.Writing.{input_words}
+use Rattle.std.proofs.Common.{ap, not}
+use Rattle.open.proofs.judge.words_ok.Goals as goal
+
+pub returns-then-not-row : goal.returns-then-not-row
+returns-then-not-row c = stops {a = c.args.row} _ refl (ap not c.if-not-row.true)
+
+pub returns : goal.returns
+unfolding input_words
+returns c = goes {a = c.args.row} refl (ap not c.if-not-row.false) c.three_below.ensures

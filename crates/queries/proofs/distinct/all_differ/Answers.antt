@@ -1,0 +1,21 @@
+use mathlib.Core.Path.{sym, ◌∙◌}
+use native.Mathlib.Omega.{arith}
+use borrow.Author.Rules.{rules}
+use lib.ListN.{length-take}
+use Rattle.queries.proofs.Marked.{marked_none, marked_turn, marked_stop, marked_end}
+use Rattle.queries.proofs.distinct.all_differ.Goals as goal
+
+pub loop-i-init : goal.loop-i-init
+loop-i-init c = marked_none (search rules)
+
+pub slice_bounds-met-end : goal.slice_bounds-met-end
+slice_bounds-met-end c = simp length-take (omega (arith, c.loop-i.invariant.within))
+
+pub returns-then-met : goal.returns-then-met
+returns-then-met c = marked_stop c.loop-i.invariant (search rules) (sym c.met.ensures ∙ c.if-met.true)
+
+pub loop-i-preserved : goal.loop-i-preserved
+loop-i-preserved c = marked_turn c.loop-i.invariant (search rules) (sym c.met.ensures ∙ c.if-met.false)
+
+pub returns : goal.returns
+returns c = marked_end c.loop-i.invariant (search rules)
