@@ -50,13 +50,9 @@ pub fn base_block(n: usize, g: &[u32], m: &[u32], out: &mut [u32], field: Field)
     requires { BlockLent (chosen field) n g.now m.now out.old }
     ensures { out.new ≡ block_of (chosen field) n g.now m.now }
 {
-    if m.len() == 1 {
-        spread::scale(Residue::new(m[0], field), g, out, field);
-        return;
+    match m.len() {
+        1 => spread::scale(Residue::new(m[0], field), g, out, field),
+        2 => block_of_two(n, g, m, out, field),
+        _ => block_of_four(n, g, m, out, field),
     }
-    if m.len() == 2 {
-        block_of_two(n, g, m, out, field);
-        return;
-    }
-    block_of_four(n, g, m, out, field);
 }

@@ -8,7 +8,7 @@ ghost use Rattle.verdict.specs.Verdicts.{found};
 ghost use Rattle.base_checks.specs.Steps.{base_word, base_at, WordLent, BasesLent};
 
 use residue::{Field, Residue};
-use verdict::{Failure, Found};
+use verdict::Failure;
 use words::entry;
 
 // v times column j.
@@ -17,25 +17,21 @@ pub fn word_at(n: usize, v: &[u32], g: &[u32], j: usize, field: Field) -> Residu
     ensures { result.0 ≡ word (chosen field) (base_word (chosen field) (length v.now) n v.now g.now j) }
 {
     let mut s = 0;
-    let mut b = 0;
-    while b < v.len() {
+    for b in 0..v.len() {
         s = entry::plus_product(s, v[b], g[b * n + j], field);
-        b += 1;
     }
     Residue::new(s, field)
 }
 
-pub fn bases(n: usize, v: &[u32], g: &[u32], bottom: &[u32], field: Field) -> Found
+pub fn bases(n: usize, v: &[u32], g: &[u32], bottom: &[u32], field: Field) -> Result<(), Failure>
     requires { BasesLent (chosen field) n v.now g.now bottom.now }
     ensures { found result ≡ first_failure (row n (base_at (chosen field) n v.now g.now bottom.now)) }
 {
-    let mut j = 0;
-    while j < n {
+    for j in 0..n {
         if word_at(n, v, g, j, field).word() != bottom[j] {
             let place = j as u32;
-            return Found::First(Failure::Base(place));
+            return Err(Failure::Base(place));
         }
-        j += 1;
     }
-    Found::Nothing
+    Ok(())
 }

@@ -8,9 +8,9 @@ ghost use Rattle.base_checks.specs.Steps.{last_at, LastLent};
 
 use polynomial::eq;
 use residue::{Field, Residue};
-use verdict::{Failure, Found};
+use verdict::Failure;
 
-pub fn last(claim: Residue, v: &[u32], z: &[u32], r: &[u32], field: Field) -> Found
+pub fn last(claim: Residue, v: &[u32], z: &[u32], r: &[u32], field: Field) -> Result<(), Failure>
     requires { LastLent (chosen field) claim v.now z.now r.now }
     ensures { found result ≡ first_failure (last_at (chosen field) claim v.now z.now r.now ∷ []) }
 {
@@ -21,7 +21,7 @@ pub fn last(claim: Residue, v: &[u32], z: &[u32], r: &[u32], field: Field) -> Fo
     let e = eq::eq(&z[low..n], r, field);
     let product = f.times(e, field);
     if !product.same(claim) {
-        return Found::First(Failure::Final);
+        return Err(Failure::Final);
     }
-    Found::Nothing
+    Ok(())
 }

@@ -13,11 +13,9 @@ fn solve_parts(k: usize, m: &[u32], out: &mut [u32], field: Field)
     requires { BlocksLent (chosen field) k m.now out.old }
     ensures { out.new ≡ solved_blocks (chosen field) k m.now out.old }
 {
-    let mut start = 0;
-    while start < out.len() {
+    for start in (0..out.len()).step_by(k) {
         let end = start + k;
         base_matrix::solve(m, &mut out[start..end], field);
-        start = end;
     }
 }
 
@@ -28,7 +26,7 @@ pub fn solve_blocks(k: usize, m: &[u32], out: &mut [u32], field: Field)
 {
     if k == 1 {
         adjugate::scale(Residue::new(m[0], field), out, field);
-        return;
+    } else {
+        solve_parts(k, m, out, field);
     }
-    solve_parts(k, m, out, field);
 }

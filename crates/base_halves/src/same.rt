@@ -8,6 +8,7 @@ ghost use Rattle.base_halves.specs.Steps.{LevelAt, TopLent, CheckLent, Stepped, 
 ghost use Rattle.base_halves.specs.Comparing.{CompareInput, Compared};
 
 use base_halves_step::{base, right};
+use base_spread::RowCode;
 use halves_step::peel;
 use residue::Field;
 
@@ -27,111 +28,77 @@ fn level_place(level: u32, n: usize) -> LevelPlace
     let size = n * q;
     let off = n * (q - 1);
     LevelPlace {
-        size: size,
-        off: off,
+        size,
+        off,
         end: off + size,
     }
 }
 
 // The step from the lent block to level `low`; what is left begins at m.
-fn top_step(
-    low: u32,
-    k: usize,
-    n: usize,
-    m: usize,
-    g: &[u32],
-    t: &[u32],
-    t2: &[u32],
-    block: &[u32],
-    work: &mut [u32],
-    field: Field,
-) -> bool
-    requires { TopLent (chosen field) low k n m g.now t.now t2.now block.now work.old }
-    ensures { Stepped (chosen field) low k n m g.now t.now t2.now (same_lent (chosen field) (suc low) k n g.now t.now t2.now block.now work.old) work.old result work.new }
+fn top_step(code: &RowCode, low: u32, m: usize, block: &[u32], work: &mut [u32]) -> bool
+    requires { TopLent (chosen code.now.field) low code.now.k code.now.n m code.now.g.now code.now.t.now code.now.t2.now block.now work.old }
+    ensures { Stepped (chosen code.now.field) low code.now.k code.now.n m code.now.g.now code.now.t.now code.now.t2.now (same_lent (chosen code.now.field) (suc low) code.now.k code.now.n code.now.g.now code.now.t.now code.now.t2.now block.now work.old) work.old result work.new }
 {
-    let p = level_place(low, n);
-    let off = p.off;
-    let end = p.end;
-    let e = m + p.size;
-    right::write_right(low, k, n, m, g, t, t2, work, field);
+    let RowCode {
+        n,
+        t,
+        t2,
+        field,
+        ..
+    } = *code;
+    let LevelPlace { size, off, end } = level_place(low, n);
+    let e = m + size;
+    right::write_right(code, low, m, work);
     peel::peel_lent(&t[off..end], &t2[off..end], block, &mut work[m..e], field)
 }
 
 // The step from the block of level low + 1 that begins at m to level `low`.
-fn step(
-    low: u32,
-    k: usize,
-    n: usize,
-    m: usize,
-    g: &[u32],
-    t: &[u32],
-    t2: &[u32],
-    work: &mut [u32],
-    field: Field,
-) -> bool
-    requires { CheckLent (chosen field) (suc low) k n m g.now t.now t2.now work.old }
-    ensures { Stepped (chosen field) low k n m g.now t.now t2.now (same_rest (chosen field) (suc low) k n m g.now t.now t2.now work.old) work.old result work.new }
+fn step(code: &RowCode, low: u32, m: usize, work: &mut [u32]) -> bool
+    requires { CheckLent (chosen code.now.field) (suc low) code.now.k code.now.n m code.now.g.now code.now.t.now code.now.t2.now work.old }
+    ensures { Stepped (chosen code.now.field) low code.now.k code.now.n m code.now.g.now code.now.t.now code.now.t2.now (same_rest (chosen code.now.field) (suc low) code.now.k code.now.n m code.now.g.now code.now.t.now code.now.t2.now work.old) work.old result work.new }
 {
-    let p = level_place(low, n);
-    let off = p.off;
-    let end = p.end;
-    let b = m + p.size + p.size;
-    let e = b + p.size;
-    right::write_right(low, k, n, b, g, t, t2, work, field);
+    let RowCode {
+        n,
+        t,
+        t2,
+        field,
+        ..
+    } = *code;
+    let LevelPlace { size, off, end } = level_place(low, n);
+    let b = m + size + size;
+    let e = b + size;
+    right::write_right(code, low, b, work);
     peel::peel_front(&t[off..end], &t2[off..end], &mut work[m..e], field)
 }
 
 // Whether the block of a level that begins at m is the codeword of the message of that level in front. A loop, since a call of itself at each level would take
 // too much stack.
-fn check(
-    level: u32,
-    k: usize,
-    n: usize,
-    m: usize,
-    g: &[u32],
-    t: &[u32],
-    t2: &[u32],
-    work: &mut [u32],
-    field: Field,
-) -> bool
-    requires { CheckLent (chosen field) level k n m g.now t.now t2.now work.old }
-    ensures { Checked (chosen field) level k n m g.now t.now t2.now work.old result work.new }
+fn check(code: &RowCode, level: u32, m: usize, work: &mut [u32]) -> bool
+    requires { CheckLent (chosen code.now.field) level code.now.k code.now.n m code.now.g.now code.now.t.now code.now.t2.now work.old }
+    ensures { Checked (chosen code.now.field) level code.now.k code.now.n m code.now.g.now code.now.t.now code.now.t2.now work.old result work.new }
 {
-    let mut i = level;
-    while i > 0 {
-        i -= 1;
-        if !step(i, k, n, m, g, t, t2, work, field) {
+    let RowCode { k, n, g, field, .. } = *code;
+    for i in (0..level).rev() {
+        if !step(code, i, m, work) {
             return false;
         }
     }
     let e = m + n;
-    let made = base::made(n, g, &work[..k], field);
+    let made = base::base_codeword(n, g, &work[..k], field);
     base::same_words(&made[..n], &work[m..e])
 }
 
 // k rows of n words, of the rate 4 or more.
-pub fn same_codeword_rows(
-    depth: u32,
-    k: usize,
-    n: usize,
-    g: &[u32],
-    t: &[u32],
-    t2: &[u32],
-    block: &[u32],
-    work: &mut [u32],
-    field: Field,
-) -> bool
-    requires { CompareInput (chosen field) depth k n g.now t.now t2.now block.now work.old }
-    ensures { Compared (chosen field) depth k n g.now t.now t2.now block.now work.old result work.new }
+pub fn same_codeword_rows(code: &RowCode, depth: u32, block: &[u32], work: &mut [u32]) -> bool
+    requires { CompareInput (chosen code.now.field) depth code.now.k code.now.n code.now.g.now code.now.t.now code.now.t2.now block.now work.old }
+    ensures { Compared (chosen code.now.field) depth code.now.k code.now.n code.now.g.now code.now.t.now code.now.t2.now block.now work.old result work.new }
 {
+    let RowCode { k, n, g, field, .. } = *code;
     if depth == 0 {
-        let made = base::made(n, g, &work[..k], field);
+        let made = base::base_codeword(n, g, &work[..k], field);
         return base::same_words(&made[..n], block);
     }
     let low = depth - 1;
     let m = k * job::message_len(depth);
-    if !top_step(low, k, n, m, g, t, t2, block, work, field) {
-        return false;
-    }
-    check(low, k, n, m, g, t, t2, work, field)
+    top_step(code, low, m, block, work) && check(code, low, m, work)
 }

@@ -1,5 +1,5 @@
 -- Lemmas of the parts of a step.
---     Copying      a base message copied out of the slice that its block is written to, and a base block in front of an array
+--     Copying      a base block in front of an array
 --     Spreading    the codeword of the right half, written behind the message
 --     OneWord      one word a base message: the step of `halves_step`
 pub mod Copying

@@ -95,7 +95,7 @@ module _ (𝓕 : PrimeField) where
           record {
             lent = 𝓡.lent;
             low = rw words_are (low_take k (low_drop (k * j) low_right));
-            message = omega (arith, in_message, p.long, 𝓡.within);
+            message = omega (arith, in_message);
             block = omega (arith, in_work, p.long);
           }
 

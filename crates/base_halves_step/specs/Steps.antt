@@ -21,11 +21,11 @@ module _ (𝓕 : PrimeField) where
     pub low : Low P m
     pub wide : n ≤ longest_base
 
-  -- a base message at one place of w, and room for its block at another
+  -- a base message at one place of w, and room for its block behind it
   pub record BehindLent (k n from to : ℕ) (g w : List ℕ) : Type 0 where
     pub lent : Lent 𝓕 k n g
     pub low : Low P (take k (drop from w))
-    pub message : from + k ≤ length w
+    pub message : from + k ≤ to
     pub block : to + n ≤ length w
 
   -- a message of two halves of q base messages each in front of w, and room from b on for the base blocks of the right half

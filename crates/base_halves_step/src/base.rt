@@ -8,7 +8,7 @@ ghost use Rattle.base_halves_step.specs.Steps.{BaseLent};
 use residue::Field;
 
 // The base block of m, in the first n words: the longest has 64, of four words at the rate 16.
-pub fn made(n: usize, g: &[u32], m: &[u32], field: Field) -> [u32; 64]
+pub fn base_codeword(n: usize, g: &[u32], m: &[u32], field: Field) -> [u32; 64]
     requires { BaseLent (chosen field) n g.now m.now }
     ensures { (length result ≡ 64) × (take n result ≡ block_of (chosen field) n g.now m.now) }
 {
@@ -22,10 +22,8 @@ pub fn same_words(a: &[u32], b: &[u32]) -> bool
     ensures { result ≡ all_same a.now b.now }
 {
     let mut ok = true;
-    let mut i = 0;
-    while i < a.len() {
-        ok = ok & (a[i] == b[i]);
-        i += 1;
+    for i in 0..a.len() {
+        ok &= a[i] == b[i];
     }
     ok
 }

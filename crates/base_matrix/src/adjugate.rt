@@ -31,10 +31,8 @@ pub fn adjugate(k: usize, n: usize, g: &[u32], field: Field) -> [u32; 16]
     ensures { result ≡ row 16 (cell_at (chosen field) k n g.now) }
 {
     let mut m = [0u32; 16];
-    let mut p = 0;
-    while p < 16 {
+    for p in 0..16 {
         m[p] = cell(k, n, g, p, field);
-        p += 1;
     }
     m
 }
@@ -44,10 +42,8 @@ pub fn scale(q: Residue, m: &mut [u32], field: Field)
     requires { LowResidue (chosen field) q × Low (P (chosen field)) m.old }
     ensures { m.new ≡ scaled_words (chosen field) q.0 m.old }
 {
-    let mut p = 0;
-    while p < m.len() {
+    for p in 0..m.len() {
         m[p] = entry::scaled(q, m[p], field);
-        p += 1;
     }
 }
 

@@ -14,10 +14,8 @@ pub fn product_at(v: &[u32], m: &[u32], j: usize, field: Field) -> u32
     ensures { result ≡ word (chosen field) (product_at (chosen field) v.now m.now j) }
 {
     let mut s = 0;
-    let mut i = 0;
-    while i < v.len() {
+    for i in 0..v.len() {
         s = entry::plus_product(s, v[i], m[i * 4 + j], field);
-        i += 1;
     }
     s
 }
@@ -26,9 +24,7 @@ pub fn times_into(v: &[u32], m: &[u32], out: &mut [u32], field: Field)
     requires { TimesLent (chosen field) v.now m.now out.old }
     ensures { out.new ≡ solved (chosen field) m.now v.now }
 {
-    let mut j = 0;
-    while j < v.len() {
+    for j in 0..v.len() {
         out[j] = product_at(v, m, j, field);
-        j += 1;
     }
 }

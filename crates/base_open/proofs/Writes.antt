@@ -3,7 +3,7 @@ use mathlib.Core.Path.{◌≡◌, ap, sym, ◌∙◌}
 use mathlib.Core.List.{List, ◌++◌}
 use Prim.Native.Nat.{ℕ, ◌+◌, ◌*◌, ◌^◌, ◌≤◌}
 use native.Mathlib.Omega.{arith}
-use lib.ListN.{length, take, drop}
+use lib.ListN.{length, take, drop, length-append, length-drop}
 use lib.Pow.{pow_mono, pow_pos}
 use lib.Seq.{take_at}
 use Rattle.algebra.specs.Words.{PrimeField}
@@ -24,6 +24,9 @@ module _ (𝓕 : PrimeField) (d low k n : ℕ) (g t t' m z r : List ℕ) (o s : 
 
   pub begun : (old work : List ℕ) → work ≡ m ++ drop (length m) old → take (k * 2 ^ d) work ≡ m
   begun old work e = ap (take (k * 2 ^ d)) e ∙ take_at m (drop (length m) old) (k * 2 ^ d) 𝓦.message
+
+  pub length_begun : (old work : List ℕ) → length old ≡ s → work ≡ m ++ drop (length m) old → length work ≡ s
+  length_begun old work l e = ap length e ∙ length-append m (drop (length m) old) ∙ omega (arith, length-drop (length m) old, message_within)
 
   pub rounds_input : (old work : List ℕ) (a b : ℕ) → work ≡ m ++ drop (length m) old → a ≡ o → b ≡ s → WriteInput 𝓕 d low k n g t t' (take (k * 2 ^ d) work) z r a b
   rounds_input old work a b e p q = rw (begun old work e, p, q) 𝓦

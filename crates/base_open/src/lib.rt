@@ -6,31 +6,27 @@ ghost use Rattle.residue.specs.Chosen.{chosen};
 ghost use Rattle.base_rounds.specs.RowOpening.{WriteInput};
 ghost use Rattle.base_open.specs.RowWriting.{WriteResult};
 
+use base_spread::RowCode;
 use residue::{Field, Residue};
 
 // The opening of a message for k rows of n words, and f(z). Of exact lengths; work is left as zeros.
 pub fn write_rows(
+    code: &RowCode,
     depth: u32,
-    low: u32,
-    k: usize,
-    n: usize,
-    g: &[u32],
-    t: &[u32],
-    t2: &[u32],
     message: &[u32],
     z: &[u32],
     r: &[u32],
     opening: &mut [u32],
     work: &mut [u32],
-    field: Field,
 ) -> Residue
-    requires { WriteInput (chosen field) depth low k n g.now t.now t2.now message.now z.now r.now (length opening.old) (length work.old) }
-    ensures { WriteResult (chosen field) low k n g.now t.now t2.now message.now z.now r.now (length work.old) result opening.new work.new }
+    requires { WriteInput (chosen code.now.field) depth code.now.low code.now.k code.now.n code.now.g.now code.now.t.now code.now.t2.now message.now z.now r.now (length opening.old) (length work.old) }
+    ensures { WriteResult (chosen code.now.field) code.now.low code.now.k code.now.n code.now.g.now code.now.t.now code.now.t2.now message.now z.now r.now (length work.old) result opening.new work.new }
 {
+    let RowCode { k, field, .. } = *code;
     let v = polynomial::value(message, z, field);
-    steps::begin(message, work);
-    base_rounds::all_rounds(depth, low, k, n, g, t, t2, z, r, opening, work, field);
-    base_steps::give_final(depth, k, opening, work);
+    words::copy(message, &mut work[..message.len()]);
+    base_rounds::all_rounds(code, depth, z, r, opening, work);
+    base_steps::write_final_value(depth, k, opening, work);
     words::clear(work);
     v
 }

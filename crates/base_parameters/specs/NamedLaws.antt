@@ -1,5 +1,5 @@
 -- Which place a refused job names that is lent a base matrix and diagonals: 4, 5 and 6; and that its refusals are 1 to 6 and 13. The theorem that it is so is in proofs/NamedRows. Assumes nothing.
-use Rattle.std.specs.Prelude.{◌≡◌, Bool, true, ◌↔◌, List, ◌++◌, ℕ, ◌+◌, ◌≤◌, ◌<◌, get_or}
+use Rattle.std.specs.Prelude.{◌≡◌, Bool, ◌↔◌, List, ◌++◌, ℕ, ◌+◌, ◌≤◌, ◌<◌, get_or}
 use Rattle.std.proofs.Common.{sym, ◌∙◌, arith, eqb-true}
 use Rattle.std.proofs.lemmas.Bool.{not-false}
 use Rattle.algebra.specs.Words.{PrimeField}

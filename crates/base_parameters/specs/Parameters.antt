@@ -5,7 +5,9 @@ use Rattle.job.specs.declared.Refusal.TheVariants.{BaseRow}
 use Rattle.job.specs.Outcome.{Outcome, done, due, demand, require, unless, ◌⨾◌}
 use Rattle.job.specs.Limits.{diagonals_size}
 use Rattle.words.specs.Scans.{all_below}
+use Rattle.places.specs.declared.inputs.Inputs.{Inputs}
 use Rattle.places.specs.Inputs.{Lent, in_order, judge_words, no_zero, no_equal}
+use Rattle.base_parameters.specs.declared.judging.Flags.{Flags}
 use Rattle.parameters.specs.Parameters.{row_inputs, row_words}
 use Rattle.base_matrix.specs.Inverting.{base_ok}
 use Rattle.job.specs.Sizes.{limits, in_limits, base_size, matrix_size}
@@ -31,6 +33,10 @@ module _ (𝓕 : PrimeField) where
   abbrev pub judge_flags : ℕ → ℕ → ℕ → (g t t' w z y r o : List ℕ) → Bool → Bool → Bool → Outcome (Unit {0})
   judge_flags d c k g t t' w z y r o lengths words apart =
       limits d c k ⨾ require lengths 3 ⨾ unless words (judge_words 𝓕 (in_order g t t' w z y r o)) ⨾ legal_base k (base_size c k) g ⨾ unless apart (no_equal t t')
+
+  -- .. of a call's inputs and flags in one record each
+  abbrev pub judge_inputs : ℕ → ℕ → ℕ → Inputs → Flags → Outcome (Unit {0})
+  judge_inputs d c k i f = judge_flags d c k i.g.now i.t.now i.t2.now i.block.now i.z.now i.y.now i.r.now i.opening.now f.lengths f.words f.apart
 
   -- no refusal is due for depth, rate, k0, base matrix and diagonals
   pub record LegalRows (d c k : ℕ) (g t t' : List ℕ) : Type 0 where

@@ -1,18 +1,31 @@
 // What is judged of the record, of base matrix and diagonals.
-ghost use Rattle.std.specs.Prelude.{◌≡◌, ◌&&◌, [], ◌≤◌, length};
+ghost use Rattle.std.specs.Prelude.{◌≡◌, ◌&&◌, ◌≤◌, length};
 ghost use Rattle.residue.specs.Chosen.{chosen};
 ghost use Rattle.job.specs.Outcome.{outcome, unless, ◌⨾◌};
 ghost use Rattle.places.specs.Inputs.{max_words, no_equal};
-ghost use Rattle.parameters.specs.Parameters.{Sized};
+ghost use Rattle.parameters.specs.Parameters.{AllSized};
 ghost use Rattle.base_matrix.specs.Inverting.{base_ok};
 ghost use Rattle.job.specs.Sizes.{limits, in_limits, base_size};
-ghost use Rattle.base_parameters.specs.Parameters.{row_lengths, legal_base, judge_flags, Flagged, BaseLent};
+ghost use Rattle.base_parameters.specs.Parameters.{row_lengths, legal_base, judge_inputs, Flagged, BaseLent};
 
-use job::{Answer, Parameters, Refusal, sizes};
+use job::{Parameters, Refusal, sizes};
 use places::inputs;
+use places::inputs::Inputs;
 use residue::Field;
 
+// What a job's own tests have found, before any refusal is given.
+#[derive(Clone, Copy, Debug, PartialEq, Eq)]
+pub struct Flags {
+    // The record is legal, and all slices have the lengths that it gives.
+    pub lengths: bool,
+    // All words are below the modulus, where all lengths are right.
+    pub words: bool,
+    // T and T' differ in every place, where all lengths are right.
+    pub apart: bool,
+}
+
 // Whether the record is legal and g, t and t2 have the lengths that it gives.
+#[tactic(auto, unfolding(crate::specs::Parameters::row_lengths))]
 pub fn lengths_ok(p: Parameters, g: usize, t: usize, t2: usize) -> bool
     ensures { result ≡ (in_limits p.depth p.rate p.k0 && row_lengths p.depth p.rate p.k0 g t t2) }
 {
@@ -20,154 +33,78 @@ pub fn lengths_ok(p: Parameters, g: usize, t: usize, t2: usize) -> bool
         return false;
     }
     let n = sizes::diagonals_len(p, p.depth);
-    if g != sizes::row_len(p) {
-        return false;
-    }
-    if t != n {
-        return false;
-    }
-    t2 == n
+    g == sizes::row_len(p) && t == n && t2 == n
 }
 
 // 1, 2 and 13: depth, rate and k0, in this order.
-pub fn judge_limits(p: Parameters) -> Answer
+pub fn judge_limits(p: Parameters) -> Result<(), Refusal>
     ensures { outcome result ≡ limits p.depth p.rate p.k0 }
 {
-    let depth = sizes::depth_ok(p);
-    let rate = job::rate_ok(p.rate);
-    let k0 = sizes::k0_ok(p);
-    let third = job::require(k0, Refusal::BaseWords, Answer::Done);
-    let second = job::require(rate, Refusal::Rate, third);
-    job::require(depth, Refusal::Depth, second)
+    job::require(sizes::depth_ok(p), Refusal::Depth)?;
+    job::require(job::rate_ok(p.rate), Refusal::Rate)?;
+    job::require(sizes::k0_ok(p), Refusal::BaseWords)
 }
 
 // 5. One row names its first zero, more rows the index 0.
-fn judge_base(p: Parameters, g: &[u32], field: Field) -> Answer
+fn judge_base(p: Parameters, g: &[u32], field: Field) -> Result<(), Refusal>
     requires { BaseLent (chosen field) p.depth p.rate p.k0 g.now }
     ensures { outcome result ≡ legal_base (chosen field) p.k0 (base_size p.rate p.k0) g.now }
 {
     if p.k0 == 1 {
         return inputs::judge_row(g);
     }
-    if base_matrix::base_ok(p.k0 as usize, sizes::base_len(p), g, field) {
-        return Answer::Done;
-    }
-    Answer::Refused(Refusal::BaseRow(0))
+    job::require(
+        base_matrix::base_ok(p.k0 as usize, sizes::base_len(p), g, field),
+        Refusal::BaseRow(0),
+    )
 }
 
 // 5, then 6.
-fn judge_legal(p: Parameters, g: &[u32], t: &[u32], t2: &[u32], apart: bool, field: Field) -> Answer
+fn judge_legal(
+    p: Parameters,
+    g: &[u32],
+    t: &[u32],
+    t2: &[u32],
+    apart: bool,
+    field: Field,
+) -> Result<(), Refusal>
     requires { BaseLent (chosen field) p.depth p.rate p.k0 g.now × (length t.now ≤ max_words) }
     ensures { outcome result ≡ legal_base (chosen field) p.k0 (base_size p.rate p.k0) g.now ⨾ unless apart (no_equal t.now t2.now) }
 {
-    let five = judge_base(p, g, field);
-    if let Answer::Refused(n) = five {
-        return Answer::Refused(n);
-    }
+    judge_base(p, g, field)?;
     inputs::judge_diagonals(apart, t, t2)
 }
 
 // Whether nothing is due, by the flags and one look at the base matrix.
-fn nothing_due(
-    p: Parameters,
-    g: &[u32],
-    lengths: bool,
-    words: bool,
-    apart: bool,
-    field: Field,
-) -> bool
-    requires { Flagged (chosen field) p.rate p.k0 g.now lengths words }
-    ensures { result ≡ (in_limits p.depth p.rate p.k0 && (((lengths && words) && apart) && base_ok (chosen field) p.k0 (base_size p.rate p.k0) g.now)) }
+fn nothing_due(p: Parameters, g: &[u32], flags: Flags, field: Field) -> bool
+    requires { Flagged (chosen field) p.rate p.k0 g.now flags.lengths flags.words }
+    ensures { result ≡ (in_limits p.depth p.rate p.k0 && (((flags.lengths && flags.words) && flags.apart) && base_ok (chosen field) p.k0 (base_size p.rate p.k0) g.now)) }
 {
     if !sizes::in_limits(p) {
         return false;
     }
-    if !(lengths & words & apart) {
-        return false;
-    }
-    base_matrix::base_ok(p.k0 as usize, sizes::base_len(p), g, field)
+    flags.lengths & flags.words & flags.apart
+        && base_matrix::base_ok(p.k0 as usize, sizes::base_len(p), g, field)
 }
 
-// What is due, in its order; what a job is not lent is empty.
-fn first_due(
-    p: Parameters,
-    g: &[u32],
-    t: &[u32],
-    t2: &[u32],
-    block: &[u32],
-    z: &[u32],
-    y: &[u32],
-    r: &[u32],
-    opening: &[u32],
-    lengths: bool,
-    words: bool,
-    apart: bool,
-    field: Field,
-) -> Answer
-    requires { Sized lengths g.now t.now t2.now block.now z.now y.now r.now opening.now × Flagged (chosen field) p.rate p.k0 g.now lengths words }
-    ensures { outcome result ≡ judge_flags (chosen field) p.depth p.rate p.k0 g.now t.now t2.now block.now z.now y.now r.now opening.now lengths words apart }
+// What is due, in its order.
+fn first_due(p: Parameters, lent: &Inputs, flags: Flags, field: Field) -> Result<(), Refusal>
+    requires { AllSized flags.lengths lent.now × Flagged (chosen field) p.rate p.k0 lent.now.g.now flags.lengths flags.words }
+    ensures { outcome result ≡ judge_inputs (chosen field) p.depth p.rate p.k0 lent.now flags }
 {
-    let limits = judge_limits(p);
-    if let Answer::Refused(n) = limits {
-        return Answer::Refused(n);
-    }
-    if !lengths {
-        return Answer::Refused(Refusal::Length);
-    }
-    let four = inputs::judge_words(words, g, t, t2, block, z, y, r, opening, field);
-    if let Answer::Refused(n) = four {
-        return Answer::Refused(n);
-    }
-    judge_legal(p, g, t, t2, apart, field)
+    judge_limits(p)?;
+    job::require(flags.lengths, Refusal::Length)?;
+    inputs::judge_words(flags.words, lent, field)?;
+    judge_legal(p, lent.g, lent.t, lent.t2, flags.apart, field)
 }
 
-// The refusals 1 to 6 and 13, by a job's own flags: of all its lengths, of all its words, and of the diagonals. A call that is not refused asks nothing else but the base matrix, once.
-pub fn judge(
-    p: Parameters,
-    g: &[u32],
-    t: &[u32],
-    t2: &[u32],
-    block: &[u32],
-    z: &[u32],
-    y: &[u32],
-    r: &[u32],
-    opening: &[u32],
-    lengths: bool,
-    words: bool,
-    apart: bool,
-    field: Field,
-) -> Answer
-    requires { Sized lengths g.now t.now t2.now block.now z.now y.now r.now opening.now × Flagged (chosen field) p.rate p.k0 g.now lengths words }
-    ensures { outcome result ≡ judge_flags (chosen field) p.depth p.rate p.k0 g.now t.now t2.now block.now z.now y.now r.now opening.now lengths words apart }
+// The refusals 1 to 6 and 13, by a job's own flags. A call that is not refused asks nothing else but the base matrix, once.
+pub fn judge(p: Parameters, lent: &Inputs, flags: Flags, field: Field) -> Result<(), Refusal>
+    requires { AllSized flags.lengths lent.now × Flagged (chosen field) p.rate p.k0 lent.now.g.now flags.lengths flags.words }
+    ensures { outcome result ≡ judge_inputs (chosen field) p.depth p.rate p.k0 lent.now flags }
 {
-    if nothing_due(p, g, lengths, words, apart, field) {
-        return Answer::Done;
+    if nothing_due(p, lent.g, flags, field) {
+        return Ok(());
     }
-    first_due(
-        p, g, t, t2, block, z, y, r, opening, lengths, words, apart, field,
-    )
-}
-
-// The same for a job that is lent only a message or a block beside them.
-pub fn judge_block(
-    p: Parameters,
-    g: &[u32],
-    t: &[u32],
-    t2: &[u32],
-    block: &[u32],
-    lengths: bool,
-    words: bool,
-    apart: bool,
-    field: Field,
-) -> Answer
-    requires { Sized lengths g.now t.now t2.now block.now [] [] [] [] × Flagged (chosen field) p.rate p.k0 g.now lengths words }
-    ensures { outcome result ≡ judge_flags (chosen field) p.depth p.rate p.k0 g.now t.now t2.now block.now [] [] [] [] lengths words apart }
-{
-    if nothing_due(p, g, lengths, words, apart, field) {
-        return Answer::Done;
-    }
-    let none = &g[..0];
-    first_due(
-        p, g, t, t2, block, none, none, none, none, lengths, words, apart, field,
-    )
+    first_due(p, lent, flags, field)
 }

@@ -5,6 +5,7 @@ ghost use Rattle.residue.specs.Chosen.{chosen};
 ghost use Rattle.base_block.specs.Blocks.{block_of};
 ghost use Rattle.base_same.specs.Steps.{WordLent, BaseLent, column_words};
 
+use base_spread::RowCode;
 use residue::Field;
 use words::entry;
 
@@ -15,54 +16,50 @@ fn block_word(n: usize, j: usize, g: &[u32], m: &[u32], field: Field) -> u32
 {
     let mut s = 0;
     let mut p = j;
-    let mut b = 0;
-    while b < m.len() {
+    for b in 0..m.len() {
         s = entry::plus_product(s, m[b], g[p], field);
         p += n;
-        b += 1;
     }
     s
 }
 
 // Behind the q base messages in front of w, word j of the base block of each.
-fn write_words(k: usize, n: usize, q: usize, j: usize, g: &[u32], w: &mut [u32], field: Field)
-    requires { BaseLent (chosen field) k n q j g.now w.old }
-    ensures { w.new ≡ paste w.old (k * q) (column_words (chosen field) k n q j g.now (take (k * q) w.old)) q }
+fn write_words(code: &RowCode, q: usize, j: usize, w: &mut [u32])
+    requires { BaseLent (chosen code.now.field) code.now.k code.now.n q j code.now.g.now w.old }
+    ensures { w.new ≡ paste w.old (code.now.k * q) (column_words (chosen code.now.field) code.now.k code.now.n q j code.now.g.now (take (code.now.k * q) w.old)) q }
 {
+    let RowCode { k, n, g, field, .. } = *code;
     let h = k * q;
     let mut a = 0;
-    let mut i = 0;
-    while i < q {
+    for i in 0..q {
         let e = a + k;
         let p = h + i;
         let v = block_word(n, j, g, &w[a..e], field);
         w[p] = v;
         a = e;
-        i += 1;
     }
 }
 
 // The same for base messages of one word: a loop without another in it.
-fn write_scaled(n: usize, q: usize, j: usize, g: &[u32], w: &mut [u32], field: Field)
-    requires { BaseLent (chosen field) 1 n q j g.now w.old }
-    ensures { w.new ≡ paste w.old (1 * q) (column_words (chosen field) 1 n q j g.now (take (1 * q) w.old)) q }
+fn write_scaled(code: &RowCode, q: usize, j: usize, w: &mut [u32])
+    requires { BaseLent (chosen code.now.field) 1 code.now.n q j code.now.g.now w.old }
+    ensures { w.new ≡ paste w.old (1 * q) (column_words (chosen code.now.field) 1 code.now.n q j code.now.g.now (take (1 * q) w.old)) q }
 {
+    let RowCode { g, field, .. } = *code;
     let x = g[j];
-    let mut i = 0;
-    while i < q {
+    for i in 0..q {
         let p = q + i;
         w[p] = entry::plus_product(0, w[i], x, field);
-        i += 1;
     }
 }
 
-pub fn write_column(k: usize, n: usize, q: usize, j: usize, g: &[u32], w: &mut [u32], field: Field)
-    requires { BaseLent (chosen field) k n q j g.now w.old }
-    ensures { w.new ≡ paste w.old (k * q) (column_words (chosen field) k n q j g.now (take (k * q) w.old)) q }
+pub fn write_column(code: &RowCode, q: usize, j: usize, w: &mut [u32])
+    requires { BaseLent (chosen code.now.field) code.now.k code.now.n q j code.now.g.now w.old }
+    ensures { w.new ≡ paste w.old (code.now.k * q) (column_words (chosen code.now.field) code.now.k code.now.n q j code.now.g.now (take (code.now.k * q) w.old)) q }
 {
-    if k == 1 {
-        write_scaled(n, q, j, g, w, field);
+    if code.k == 1 {
+        write_scaled(code, q, j, w);
         return;
     }
-    write_words(k, n, q, j, g, w, field);
+    write_words(code, q, j, w);
 }

@@ -10,6 +10,7 @@ ghost use Rattle.base_spread.specs.LentRows.{codeword_rows};
 ghost use Rattle.base_halves.specs.Comparing.{Compared};
 ghost use Rattle.base_same.specs.Steps.{MessageLent, ColumnsInput};
 
+use base_spread::RowCode;
 use columns::lift;
 use residue::Field;
 
@@ -17,49 +18,36 @@ mod column;
 
 // Whether column j of the block is that of the codeword of the message in front of work. Above the base blocks the code is that of any one row of n words:
 // the first is lent for its length.
-fn same_column(
-    depth: u32,
-    k: usize,
-    n: usize,
-    j: usize,
-    g: &[u32],
-    t: &[u32],
-    t2: &[u32],
-    block: &[u32],
-    work: &mut [u32],
-    field: Field,
-) -> bool
-    requires { MessageLent (chosen field) depth k n g.now t.now t2.now block.now work.old × (j < n) }
-    ensures { (result ≡ all_same (every 0 n j (2 ^ depth) (codeword_rows (chosen field) depth k n g.now t.now t2.now (take (k * 2 ^ depth) work.old))) (every 0 n j (2 ^ depth) block.now)) × (take (k * 2 ^ depth) work.new ≡ take (k * 2 ^ depth) work.old) }
+fn same_column(code: &RowCode, depth: u32, j: usize, block: &[u32], work: &mut [u32]) -> bool
+    requires { MessageLent (chosen code.now.field) depth code.now.k code.now.n code.now.g.now code.now.t.now code.now.t2.now block.now work.old × (j < code.now.n) }
+    ensures { (result ≡ all_same (every 0 code.now.n j (2 ^ depth) (codeword_rows (chosen code.now.field) depth code.now.k code.now.n code.now.g.now code.now.t.now code.now.t2.now (take (code.now.k * 2 ^ depth) work.old))) (every 0 code.now.n j (2 ^ depth) block.now)) × (take (code.now.k * 2 ^ depth) work.new ≡ take (code.now.k * 2 ^ depth) work.old) }
 {
+    let RowCode {
+        k,
+        n,
+        g,
+        t,
+        t2,
+        field,
+        ..
+    } = *code;
     let q = job::message_len(depth);
     let h = k * q;
     let e = h + q;
-    column::write_column(k, n, q, j, g, work, field);
+    column::write_column(code, q, j, work);
     lift::lifts_to(depth, j, &g[..n], t, t2, block, &mut work[h..e], field)
 }
 
 // The first k columns of the block are right: the message was found from them.
-pub fn same_columns_rows(
-    depth: u32,
-    k: usize,
-    n: usize,
-    g: &[u32],
-    t: &[u32],
-    t2: &[u32],
-    block: &[u32],
-    work: &mut [u32],
-    field: Field,
-) -> bool
-    requires { ColumnsInput (chosen field) depth k n g.now t.now t2.now block.now work.old }
-    ensures { Compared (chosen field) depth k n g.now t.now t2.now block.now work.old result work.new }
+pub fn same_columns_rows(code: &RowCode, depth: u32, block: &[u32], work: &mut [u32]) -> bool
+    requires { ColumnsInput (chosen code.now.field) depth code.now.k code.now.n code.now.g.now code.now.t.now code.now.t2.now block.now work.old }
+    ensures { Compared (chosen code.now.field) depth code.now.k code.now.n code.now.g.now code.now.t.now code.now.t2.now block.now work.old result work.new }
 {
-    let mut j = k;
-    while j < n {
-        if !same_column(depth, k, n, j, g, t, t2, block, work, field) {
+    let RowCode { k, n, .. } = *code;
+    for j in k..n {
+        if !same_column(code, depth, j, block, work) {
             return false;
         }
-        j += 1;
     }
     true
 }

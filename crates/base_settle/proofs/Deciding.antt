@@ -7,7 +7,7 @@ use native.Mathlib.Nat.{mul-le-mul_right}
 use native.Mathlib.Omega.{arith}
 use lib.ListN.{length, take}
 use Rattle.algebra.specs.Words.{PrimeField}
-use Rattle.job.specs.declared.Answer.TheVariants.{Done, Refused}
+use Rattle.std.specs.Prelude.{Ok, Err}
 use Rattle.job.specs.declared.Refusal.TheVariants.{NoCodeword}
 use Rattle.base_spread.specs.LentRows.{codeword_rows}
 use Rattle.base_decode.specs.Decoding.{DecodeRows, Tried, message as tried, none as failed}
@@ -15,11 +15,11 @@ use Rattle.base_settle.specs.Settling.{Settled, message, none}
 
 module _ (𝓕 : PrimeField) where
   module _ (d k n : ℕ) (g t t' b old : List ℕ) {r : Bool} {w : List ℕ} where
-    pub found : Tried 𝓕 d k n g t t' b r w → not r ≡ false → (out : List ℕ) → out ≡ take (k * 2 ^ d) w → Settled 𝓕 d k n g t t' b old Done out
+    pub found : Tried 𝓕 d k n g t t' b r w → not r ≡ false → (out : List ℕ) → out ≡ take (k * 2 ^ d) w → Settled 𝓕 d k n g t t' b old (Ok tt) out
     found (tried a l p e) y out q = message refl (ap length q ∙ l) (rw q p) (ap (codeword_rows 𝓕 d k n g t t') q ∙ e)
     found (failed a x) y out q = absurd (false≢true (sym y ∙ ap not a))
 
-    pub not_found : Tried 𝓕 d k n g t t' b r w → not r ≡ true → Settled 𝓕 d k n g t t' b old (Refused NoCodeword) old
+    pub not_found : Tried 𝓕 d k n g t t' b r w → not r ≡ true → Settled 𝓕 d k n g t t' b old (Err NoCodeword) old
     not_found (tried a l p e) y = absurd (false≢true (sym (ap not a) ∙ y))
     not_found (failed a x) y = none refl x refl
 

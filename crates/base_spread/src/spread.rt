@@ -32,13 +32,11 @@ pub fn spread_blocks(
     requires { SpreadLent (chosen field) k n g.now message.now out.old × Low (chosen field) f }
     ensures { out.new ≡ blocks_by (chosen field) (elem (chosen field) f) k n g.now message.now }
 {
-    let mut i = 0;
     let mut b = 0;
-    while i < message.len() {
+    for i in (0..message.len()).step_by(k) {
         let e = i + k;
         let l = b + n;
         scaled_block(n, g, &message[i..e], &mut out[b..l], f, field);
-        i = e;
         b = l;
     }
 }

@@ -10,6 +10,7 @@ ghost use Rattle.job.specs.Limits.{max_depth};
 ghost use Rattle.base_spread.specs.LentRows.{codeword_rows};
 ghost use Rattle.base_steps.specs.RowSteps.{max_base, TakeInput, TakeResult, GiveBlockInput};
 
+use base_spread::RowCode;
 use residue::{Field, Residue};
 use steps::{fold, weigh};
 
@@ -23,7 +24,7 @@ pub fn block_at(depth: u32, low: u32, n: usize, level: u32) -> usize
 }
 
 // The challenge r_i, for the variable low + i: what is left is folded by it, and eq of it and that variable comes to the weight.
-pub fn take_challenge(
+pub fn fold_by_challenge(
     low: u32,
     i: u32,
     w: Residue,
@@ -43,30 +44,19 @@ pub fn take_challenge(
 }
 
 // The block of level i, the codeword of what is left, into its place.
-pub fn give_block(
-    depth: u32,
-    low: u32,
-    i: u32,
-    k: usize,
-    n: usize,
-    g: &[u32],
-    t: &[u32],
-    t2: &[u32],
-    opening: &mut [u32],
-    work: &[u32],
-    field: Field,
-)
-    requires { GiveBlockInput (chosen field) depth low i k n g.now t.now t2.now (length opening.old) work.now }
-    ensures { opening.new ≡ put (block_at n low depth i) (codeword_rows (chosen field) i k n g.now t.now t2.now (take (2 ^ (low + i)) work.now)) opening.old }
+pub fn write_block(code: &RowCode, depth: u32, i: u32, opening: &mut [u32], work: &[u32])
+    requires { GiveBlockInput (chosen code.now.field) depth code.now.low i code.now.k code.now.n code.now.g.now code.now.t.now code.now.t2.now (length opening.old) work.now }
+    ensures { opening.new ≡ put (block_at code.now.n code.now.low depth i) (codeword_rows (chosen code.now.field) i code.now.k code.now.n code.now.g.now code.now.t.now code.now.t2.now (take (2 ^ (code.now.low + i)) work.now)) opening.old }
 {
+    let RowCode { low, n, .. } = *code;
     let m = job::message_len(low + i);
     let at = block_at(depth, low, n, i);
     let end = at + n * job::message_len(i);
-    base_spread::encode_rows(i, k, n, g, t, t2, &work[..m], &mut opening[at..end], field);
+    base_spread::encode_rows(code, i, &work[..m], &mut opening[at..end]);
 }
 
 // v, the words that are left at last.
-pub fn give_final(depth: u32, k: usize, opening: &mut [u32], work: &[u32])
+pub fn write_final_value(depth: u32, k: usize, opening: &mut [u32], work: &[u32])
     requires { (final_at depth + k ≤ length opening.old) × (k ≤ length work.now) }
     ensures { opening.new ≡ put (final_at depth) (take k work.now) opening.old }
 {

@@ -1,9 +1,10 @@
 // One column of a block, with its levels undone.
-ghost use Rattle.std.specs.Prelude.{◌≡◌, ◌+◌, ◌-◌, ◌^◌, ◌<◌, ◌≤◌, min, length, take, drop};
+ghost use Rattle.std.specs.Prelude.{◌≡◌, ◌+◌, ◌-◌, ◌^◌, ◌<◌, ◌≤◌, length, take, drop};
 ghost use Rattle.residue.specs.Chosen.{chosen};
 ghost use Rattle.inversion.specs.Inversion.{gap_inverses};
 ghost use Rattle.base_undo.specs.Steps.{ColumnInput, BlockInput, RowsInput, undone_words, ColumnsUndone};
 
+use base_spread::RowCode;
 use residue::{Field, Residue};
 use undo::{column, levels};
 
@@ -26,13 +27,6 @@ fn undo_first(
     levels::undo(depth, q, Residue::ONE, n, t, &mut work[..e], field);
 }
 
-// Where column b begins. At depth 0 there are no diagonals to begin in.
-fn least(b: usize, n: usize) -> usize
-    ensures { result ≡ min b n }
-{
-    if b < n { b } else { n }
-}
-
 // Column b of the block undone, in front of work, with the inverses of its differences behind it.
 fn undo_column(
     depth: u32,
@@ -47,32 +41,30 @@ fn undo_column(
     requires { BlockInput (chosen field) depth n t.now t2.now block.now × (b < n) × (2 ^ depth + 2 ^ depth ≤ length work.old) × (take (2 ^ depth - 1) (drop (2 ^ depth) work.old) ≡ gap_inverses (chosen field) n (2 ^ depth - 1) (drop b t.now) (drop b t2.now)) }
     ensures { take (2 ^ depth) work.new ≡ undone_words (chosen field) depth n b t.now t2.now block.now }
 {
-    let s = least(b, t.len());
+    // At depth 0 there are no diagonals to begin in.
+    let s = b.min(t.len());
     undo_first(depth, n, &t[s..], &t2[s..], &block[b..], work, field);
 }
 
 // The first k columns undone, one behind the other. Each stands before its inverses, and overwrites those of the column before it.
-pub fn undo_columns(
-    depth: u32,
-    k: usize,
-    n: usize,
-    t: &[u32],
-    t2: &[u32],
-    block: &[u32],
-    work: &mut [u32],
-    field: Field,
-)
-    requires { RowsInput (chosen field) depth k n t.now t2.now block.now (length work.old) }
-    ensures { ColumnsUndone (chosen field) depth k n t.now t2.now block.now work.new }
+pub fn undo_columns(code: &RowCode, depth: u32, block: &[u32], work: &mut [u32])
+    requires { RowsInput (chosen code.now.field) depth code.now.k code.now.n code.now.t.now code.now.t2.now block.now (length work.old) }
+    ensures { ColumnsUndone (chosen code.now.field) depth code.now.k code.now.n code.now.t.now code.now.t2.now block.now work.new }
 {
+    let RowCode {
+        k,
+        n,
+        t,
+        t2,
+        field,
+        ..
+    } = *code;
     let q = job::message_len(depth);
     base_inverses::invert_columns(k, n, q, t, t2, work, field);
     let mut s = (k - 1) * q;
-    let mut b = 0;
-    while b < k {
+    for b in 0..k {
         let e = s + q + q;
         undo_column(depth, b, n, t, t2, block, &mut work[s..e], field);
         s += q;
-        b += 1;
     }
 }

@@ -7,6 +7,7 @@ ghost use Rattle.residue.specs.Elements.{P};
 ghost use Rattle.residue.specs.Chosen.{chosen};
 ghost use Rattle.base_undo.specs.Steps.{RowsInput, decoded_rows};
 
+use base_spread::RowCode;
 use residue::Field;
 
 mod column;
@@ -14,23 +15,14 @@ mod groups;
 
 // The message, in front of work: the first k columns undone, and of the words across them the groups of k times the inverse matrix in m. The base rows
 // themselves are not asked for.
-pub fn message_of_rows(
-    depth: u32,
-    k: usize,
-    n: usize,
-    m: &[u32],
-    t: &[u32],
-    t2: &[u32],
-    block: &[u32],
-    work: &mut [u32],
-    field: Field,
-)
-    requires { RowsInput (chosen field) depth k n t.now t2.now block.now (length work.old) × (length m.now ≡ 16) × Low (P (chosen field)) m.now }
-    ensures { (g : List ℕ) → take (k * 2 ^ depth) work.new ≡ decoded_rows (chosen field) depth k n g m.now t.now t2.now block.now }
+pub fn message_of_rows(code: &RowCode, depth: u32, m: &[u32], block: &[u32], work: &mut [u32])
+    requires { RowsInput (chosen code.now.field) depth code.now.k code.now.n code.now.t.now code.now.t2.now block.now (length work.old) × (length m.now ≡ 16) × Low (P (chosen code.now.field)) m.now }
+    ensures { (g : List ℕ) → take (code.now.k * 2 ^ depth) work.new ≡ decoded_rows (chosen code.now.field) depth code.now.k code.now.n g m.now code.now.t.now code.now.t2.now block.now }
 {
-    column::undo_columns(depth, k, n, t, t2, block, work, field);
+    let RowCode { k, field, .. } = *code;
+    column::undo_columns(code, depth, block, work);
     let q = job::message_len(depth);
-    groups::regroup(k, q, work);
+    groups::transpose(k, q, work);
     let e = k * q;
     base_columns::solve_blocks(k, m, &mut work[..e], field);
 }

@@ -14,8 +14,8 @@ use Rattle.residue.specs.Elements.{elem}
 use Rattle.residue.specs.declared.Residue.{Residue}
 use Rattle.layout.specs.BlockLaws.{carried_words}
 use Rattle.claims.specs.Steps.{SumsResult, LowClaim, after_sums}
-use Rattle.claims.specs.declared.sums.Claimed.{Claimed}
-use Rattle.claims.specs.declared.sums.Claimed.TheVariants.{Last}
+use Rattle.std.specs.Prelude.{Result, Ok}
+use Rattle.verdict.specs.declared.Failure.{Failure}
 use Rattle.base_checks.specs.Steps.{low_count, last_at, LastLent}
 use Rattle.base_checks.specs.Laws.{last_is}
 use Rattle.base_verify.specs.Steps.{ClaimsInput, ChecksInput}
@@ -53,12 +53,12 @@ module _ (𝓕 : PrimeField) where
           ∙ sym (last_is F low (elements 𝓕 o) (elements 𝓕 z) (elements 𝓕 r) (elements 𝓕 v) (elem 𝓕 y) carried_is)
 
     -- the first failure of the sums and the final check, by what the loop of the sums answers
-    pub result_is : (s : Claimed) → SumsResult 𝓕 d y r o s → after_sums 𝓕 low (elements 𝓕 o) (elements 𝓕 z) (elements 𝓕 r) s ≡ first_failure (sums F low (elements 𝓕 o) (elements 𝓕 z) (elements 𝓕 r) (elem 𝓕 y))
+    pub result_is : (s : Result Residue Failure) → SumsResult 𝓕 d y r o s → after_sums 𝓕 low (elements 𝓕 o) (elements 𝓕 z) (elements 𝓕 r) s ≡ first_failure (sums F low (elements 𝓕 o) (elements 𝓕 z) (elements 𝓕 r) (elem 𝓕 y))
     result_is s 𝓢 =
         sym (ap (λ n. first_failure (sums_from F low (elements 𝓕 o) (elements 𝓕 z) (elements 𝓕 r) n (elem 𝓕 y))) (length_elements 𝓕 r ∙ 𝓒.sums.challenges) ∙ 𝓢.first low (elements 𝓕 z))
 
     -- the final check is lent what the sums are, with the claim that they leave
-    pub last_input : (s : Claimed) (w : Residue) → s ≡ Last w → LowClaim 𝓕 s → ClaimsInput 𝓕 d low k w z r o
+    pub last_input : (s : Result Residue Failure) (w : Residue) → s ≡ Ok w → LowClaim 𝓕 s → ClaimsInput 𝓕 d low k w z r o
     last_input s w e l =
         let 𝓘 = 𝓒.sums in
         record {

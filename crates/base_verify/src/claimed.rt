@@ -8,45 +8,40 @@ ghost use Rattle.verdict.specs.Verdicts.{found};
 ghost use Rattle.base_verify.specs.Steps.{ClaimsInput};
 
 use base_checks::last;
+use base_spread::RowCode;
 use base_walks::levels;
 use claims::sums;
-use claims::sums::Claimed;
 use residue::{Field, Residue};
-use verdict::{Failure, Found};
+use verdict::Failure;
 
 // The final check.
 pub fn last_rows(
+    code: &RowCode,
     depth: u32,
-    low: u32,
-    k: usize,
     claim: Residue,
     z: &[u32],
     r: &[u32],
     opening: &[u32],
-    field: Field,
-) -> Found
-    requires { ClaimsInput (chosen field) depth low k claim z.now r.now opening.now }
-    ensures { found result ≡ first_failure (sums_from (F (chosen field)) low (elements (chosen field) opening.now) (elements (chosen field) z.now) (elements (chosen field) r.now) 0 (elem (chosen field) claim)) }
+) -> Result<(), Failure>
+    requires { ClaimsInput (chosen code.now.field) depth code.now.low code.now.k claim z.now r.now opening.now }
+    ensures { found result ≡ first_failure (sums_from (F (chosen code.now.field)) code.now.low (elements (chosen code.now.field) opening.now) (elements (chosen code.now.field) z.now) (elements (chosen code.now.field) r.now) 0 (elem (chosen code.now.field) claim)) }
 {
+    let RowCode { k, field, .. } = *code;
     let v = levels::final_words(depth, k, opening);
     last::last(claim, v, z, r, field)
 }
 
 pub fn claims_rows(
+    code: &RowCode,
     depth: u32,
-    low: u32,
-    k: usize,
     z: &[u32],
     y: Residue,
     r: &[u32],
     opening: &[u32],
-    field: Field,
-) -> Found
-    requires { ClaimsInput (chosen field) depth low k y z.now r.now opening.now }
-    ensures { found result ≡ first_failure (sum_checks (F (chosen field)) low (elements (chosen field) opening.now) (elements (chosen field) z.now) (elements (chosen field) r.now) (elem (chosen field) y)) }
+) -> Result<(), Failure>
+    requires { ClaimsInput (chosen code.now.field) depth code.now.low code.now.k y z.now r.now opening.now }
+    ensures { found result ≡ first_failure (sum_checks (F (chosen code.now.field)) code.now.low (elements (chosen code.now.field) opening.now) (elements (chosen code.now.field) z.now) (elements (chosen code.now.field) r.now) (elem (chosen code.now.field) y)) }
 {
-    match sums::sums(depth, y, r, opening, field) {
-        Claimed::Fails(i) => Found::First(Failure::Sum(i)),
-        Claimed::Last(claim) => last_rows(depth, low, k, claim, z, r, opening, field),
-    }
+    let claim = sums::sums(depth, y, r, opening, code.field)?;
+    last_rows(code, depth, claim, z, r, opening)
 }

@@ -10,36 +10,30 @@ ghost use Rattle.verdict.specs.Verdicts.{found};
 ghost use Rattle.base_spread.specs.LentRows.{lent_rows};
 ghost use Rattle.base_verify.specs.Steps.{ChecksInput};
 
+use base_spread::RowCode;
+use base_walks::Opened;
 use residue::{Field, Residue};
-use verdict::Found;
+use verdict::Failure;
 
 pub mod claimed;
 
 // The base matrix has k rows of n words, and `low` variables are inside a base message: k is 2^low.
-pub fn checks_rows<'a>(
-    depth: u32,
-    low: u32,
-    k: usize,
-    n: usize,
-    g: &[u32],
-    t: &[u32],
-    t2: &[u32],
-    block: &'a [u32],
+pub fn checks_rows(
+    code: &RowCode,
+    opened: &Opened,
     z: &[u32],
     y: Residue,
-    r: &[u32],
     queries: &[u32],
-    opening: &'a [u32],
-    field: Field,
-) -> Found
-    requires { ChecksInput (chosen field) depth low k n g.now t.now t2.now block.now z.now y r.now queries.now opening.now }
-    ensures { found result ≡ first_failure (all_checks (F (chosen field)) low (lent_rows (chosen field) k n g.now t.now t2.now) (elements (chosen field) block.now) (elements (chosen field) z.now) (elem (chosen field) y) (elements (chosen field) r.now) queries.now (elements (chosen field) opening.now)) }
+) -> Result<(), Failure>
+    requires { ChecksInput (chosen code.now.field) opened.now.depth code.now.low code.now.k code.now.n code.now.g.now code.now.t.now code.now.t2.now opened.now.block.now z.now y opened.now.r.now queries.now opened.now.opening.now }
+    ensures { found result ≡ first_failure (all_checks (F (chosen code.now.field)) code.now.low (lent_rows (chosen code.now.field) code.now.k code.now.n code.now.g.now code.now.t.now code.now.t2.now) (elements (chosen code.now.field) opened.now.block.now) (elements (chosen code.now.field) z.now) (elem (chosen code.now.field) y) (elements (chosen code.now.field) opened.now.r.now) queries.now (elements (chosen code.now.field) opened.now.opening.now)) }
 {
-    let first = claimed::claims_rows(depth, low, k, z, y, r, opening, field);
-    if let Found::First(f) = first {
-        return Found::First(f);
-    }
-    base_walks::blocks_rows(
-        depth, low, k, n, g, t, t2, block, r, queries, opening, field,
-    )
+    let Opened {
+        depth,
+        r,
+        opening,
+        ..
+    } = *opened;
+    claimed::claims_rows(code, depth, z, y, r, opening)?;
+    base_walks::blocks_rows(code, opened, queries)
 }

@@ -10,32 +10,32 @@ ghost use Rattle.walks.specs.Steps.{PlaceBelow, QueryPlaces};
 ghost use Rattle.base_spread.specs.LentRows.{lent_rows};
 ghost use Rattle.base_walks.specs.Steps.{RowsInput};
 
-use crate::levels;
+use crate::{Opened, levels};
+use base_spread::RowCode;
 use residue::{Field, Residue};
-use verdict::{Failure, Found};
+use verdict::Failure;
 use walks::folds;
 
 // The check of a level at a place.
-pub fn fold_holds<'a>(
-    depth: u32,
-    low: u32,
-    k: usize,
-    n: usize,
-    g: &[u32],
-    t: &[u32],
-    t2: &[u32],
-    block: &'a [u32],
-    r: &[u32],
-    opening: &'a [u32],
-    level: u32,
-    u: usize,
-    field: Field,
-) -> bool
-    requires { (RowsInput (chosen field) depth low k n g.now t.now t2.now block.now r.now opening.now) × (level < depth) × (u < block_size n level) }
-    ensures { result ≡ fold_holds (F (chosen field)) low (lent_rows (chosen field) k n g.now t.now t2.now) (elements (chosen field) block.now) (elements (chosen field) r.now) (elements (chosen field) opening.now) level u }
+pub fn fold_holds(code: &RowCode, opened: &Opened, level: u32, u: usize) -> bool
+    requires { (RowsInput (chosen code.now.field) opened.now.depth code.now.low code.now.k code.now.n code.now.g.now code.now.t.now code.now.t2.now opened.now.block.now opened.now.r.now opened.now.opening.now) × (level < opened.now.depth) × (u < block_size code.now.n level) }
+    ensures { result ≡ fold_holds (F (chosen code.now.field)) code.now.low (lent_rows (chosen code.now.field) code.now.k code.now.n code.now.g.now code.now.t.now code.now.t2.now) (elements (chosen code.now.field) opened.now.block.now) (elements (chosen code.now.field) opened.now.r.now) (elements (chosen code.now.field) opened.now.opening.now) level u }
 {
-    let upper = levels::level_block(depth, low, k, n, level + 1, block, opening);
-    let lower = levels::level_block(depth, low, k, n, level, block, opening);
+    let Opened {
+        depth,
+        block,
+        r,
+        opening,
+    } = *opened;
+    let RowCode {
+        n,
+        t,
+        t2,
+        field,
+        ..
+    } = *code;
+    let upper = levels::level_block(code, depth, level + 1, block, opening);
+    let lower = levels::level_block(code, depth, level, block, opening);
     let at = levels::diagonals_len(level, n) + u;
     let a = Residue::new(r[level as usize], field);
     let first = Residue::new(t[at], field);
@@ -44,62 +44,27 @@ pub fn fold_holds<'a>(
 }
 
 // The query at position q, whose place is u, through all levels.
-pub fn walk<'a>(
-    depth: u32,
-    low: u32,
-    k: usize,
-    n: usize,
-    g: &[u32],
-    t: &[u32],
-    t2: &[u32],
-    block: &'a [u32],
-    r: &[u32],
-    opening: &'a [u32],
-    q: u32,
-    u: usize,
-    field: Field,
-) -> Found
-    requires { (RowsInput (chosen field) depth low k n g.now t.now t2.now block.now r.now opening.now) × (PlaceBelow n depth u) }
-    ensures { found result ≡ first_failure (folds_at (F (chosen field)) low (lent_rows (chosen field) k n g.now t.now t2.now) (elements (chosen field) block.now) (elements (chosen field) r.now) (elements (chosen field) opening.now) q (places_of n depth u)) }
+pub fn walk(code: &RowCode, opened: &Opened, q: u32, u: usize) -> Result<(), Failure>
+    requires { (RowsInput (chosen code.now.field) opened.now.depth code.now.low code.now.k code.now.n code.now.g.now code.now.t.now code.now.t2.now opened.now.block.now opened.now.r.now opened.now.opening.now) × (PlaceBelow code.now.n opened.now.depth u) }
+    ensures { found result ≡ first_failure (folds_at (F (chosen code.now.field)) code.now.low (lent_rows (chosen code.now.field) code.now.k code.now.n code.now.g.now code.now.t.now code.now.t2.now) (elements (chosen code.now.field) opened.now.block.now) (elements (chosen code.now.field) opened.now.r.now) (elements (chosen code.now.field) opened.now.opening.now) q (places_of code.now.n opened.now.depth u)) }
 {
-    let mut i = depth;
     let mut at = u;
-    while 0 < i {
-        i -= 1;
-        if !fold_holds(depth, low, k, n, g, t, t2, block, r, opening, i, at, field) {
-            return Found::First(Failure::Fold(q, i));
+    for i in (0..opened.depth).rev() {
+        if !fold_holds(code, opened, i, at) {
+            return Err(Failure::Fold(q, i));
         }
-        at = levels::next(i, n, at);
+        at = levels::next(i, code.n, at);
     }
-    Found::Nothing
+    Ok(())
 }
 
-pub fn folds_rows<'a>(
-    depth: u32,
-    low: u32,
-    k: usize,
-    n: usize,
-    g: &[u32],
-    t: &[u32],
-    t2: &[u32],
-    block: &'a [u32],
-    r: &[u32],
-    queries: &[u32],
-    opening: &'a [u32],
-    field: Field,
-) -> Found
-    requires { (RowsInput (chosen field) depth low k n g.now t.now t2.now block.now r.now opening.now) × (QueryPlaces n depth queries.now) }
-    ensures { found result ≡ first_failure (folds_from (F (chosen field)) low (lent_rows (chosen field) k n g.now t.now t2.now) (elements (chosen field) block.now) (elements (chosen field) r.now) (elements (chosen field) opening.now) 0 queries.now) }
+pub fn folds_rows(code: &RowCode, opened: &Opened, queries: &[u32]) -> Result<(), Failure>
+    requires { (RowsInput (chosen code.now.field) opened.now.depth code.now.low code.now.k code.now.n code.now.g.now code.now.t.now code.now.t2.now opened.now.block.now opened.now.r.now opened.now.opening.now) × (QueryPlaces code.now.n opened.now.depth queries.now) }
+    ensures { found result ≡ first_failure (folds_from (F (chosen code.now.field)) code.now.low (lent_rows (chosen code.now.field) code.now.k code.now.n code.now.g.now code.now.t.now code.now.t2.now) (elements (chosen code.now.field) opened.now.block.now) (elements (chosen code.now.field) opened.now.r.now) (elements (chosen code.now.field) opened.now.opening.now) 0 queries.now) }
 {
-    let mut q = 0;
-    while q < queries.len() {
-        let u = queries[q] as usize;
-        let at = q as u32;
-        let first = walk(depth, low, k, n, g, t, t2, block, r, opening, at, u, field);
-        if let Found::First(f) = first {
-            return Found::First(f);
-        }
-        q += 1;
+    for (q, u) in queries.iter().enumerate() {
+        let (q, u) = (q as u32, *u as usize);
+        walk(code, opened, q, u)?;
     }
-    Found::Nothing
+    Ok(())
 }

@@ -6,7 +6,9 @@ ghost use Rattle.job.specs.Limits.{max_depth, block_size, diagonals_size};
 ghost use Rattle.undo.specs.Steps.{longest_base};
 ghost use Rattle.base_walks.specs.Steps.{RowSizes};
 
-// The words of a block.
+use base_spread::RowCode;
+
+// The words of a block. This and the next function are of a level and n alone: those of `job::sizes` ask for a record of parameters within its limits.
 pub fn block_len(level: u32, n: usize) -> usize
     requires { (level ≤ max_depth) × (n ≤ longest_base) }
     ensures { result ≡ block_size n level }
@@ -23,6 +25,7 @@ pub fn diagonals_len(level: u32, n: usize) -> usize
 }
 
 // Where the block of a level below the top one begins, in an opening of `len` words: it and the blocks below it are its last n (2^(level + 1) - 1).
+// Counted from the end, it asks for neither depth nor low, as `base_steps::block_at` does for who writes.
 pub fn block_at(n: usize, level: u32, len: usize) -> usize
     requires { (level < max_depth) × (n ≤ longest_base) × (diagonals_size n (level + 1) ≤ len) }
     ensures { result + diagonals_size n (level + 1) ≡ len }
@@ -42,22 +45,20 @@ pub fn final_words(depth: u32, k: usize, opening: &[u32]) -> &[u32]
 
 // The block of a level, as a part of what is lent: that of the top level is the commitment's, every lower one lies in the opening.
 pub fn level_block<'a>(
+    code: &RowCode,
     depth: u32,
-    low: u32,
-    k: usize,
-    n: usize,
     level: u32,
     block: &'a [u32],
     opening: &'a [u32],
 ) -> &'a [u32]
-    requires { (RowSizes depth low k n) × (level ≤ depth) × (length opening.now ≡ opening_size n low depth) }
-    ensures { result.now ≡ block_of n low depth block.now opening.now level }
+    requires { (RowSizes depth code.now.low code.now.k code.now.n) × (level ≤ depth) × (length opening.now ≡ opening_size code.now.n code.now.low depth) }
+    ensures { result.now ≡ block_of code.now.n code.now.low depth block.now opening.now level }
 {
     if level == depth {
         return block;
     }
-    let start = block_at(n, level, opening.len());
-    let end = start + block_len(level, n);
+    let start = block_at(code.n, level, opening.len());
+    let end = start + block_len(level, code.n);
     &opening[start..end]
 }
 

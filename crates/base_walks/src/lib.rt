@@ -12,37 +12,36 @@ ghost use Rattle.base_spread.specs.LentRows.{lent_rows};
 ghost use Rattle.base_walks.specs.Steps.{RowsInput};
 
 use base_checks::base;
+use base_spread::RowCode;
 use residue::Field;
-use verdict::Found;
+use verdict::Failure;
 
 pub mod folds;
 pub mod levels;
 
+// What a verifier is lent of an opening for `depth` levels: the committed block, the challenges and the opening's words.
+#[derive(Clone, Copy)]
+pub struct Opened<'a> {
+    pub depth: u32,
+    pub block: &'a [u32],
+    pub r: &'a [u32],
+    pub opening: &'a [u32],
+}
+
 // The base checks, then the fold checks.
-pub fn blocks_rows<'a>(
-    depth: u32,
-    low: u32,
-    k: usize,
-    n: usize,
-    g: &[u32],
-    t: &[u32],
-    t2: &[u32],
-    block: &'a [u32],
-    r: &[u32],
-    queries: &[u32],
-    opening: &'a [u32],
-    field: Field,
-) -> Found
-    requires { (RowsInput (chosen field) depth low k n g.now t.now t2.now block.now r.now opening.now) × (QueryPlaces n depth queries.now) }
-    ensures { found result ≡ first_failure (base_checks (F (chosen field)) low (lent_rows (chosen field) k n g.now t.now t2.now) (elements (chosen field) block.now) (elements (chosen field) r.now) (elements (chosen field) opening.now) ++ fold_checks (F (chosen field)) low (lent_rows (chosen field) k n g.now t.now t2.now) (elements (chosen field) block.now) (elements (chosen field) r.now) (elements (chosen field) opening.now) queries.now) }
+pub fn blocks_rows(code: &RowCode, opened: &Opened, queries: &[u32]) -> Result<(), Failure>
+    requires { (RowsInput (chosen code.now.field) opened.now.depth code.now.low code.now.k code.now.n code.now.g.now code.now.t.now code.now.t2.now opened.now.block.now opened.now.r.now opened.now.opening.now) × (QueryPlaces code.now.n opened.now.depth queries.now) }
+    ensures { found result ≡ first_failure (base_checks (F (chosen code.now.field)) code.now.low (lent_rows (chosen code.now.field) code.now.k code.now.n code.now.g.now code.now.t.now code.now.t2.now) (elements (chosen code.now.field) opened.now.block.now) (elements (chosen code.now.field) opened.now.r.now) (elements (chosen code.now.field) opened.now.opening.now) ++ fold_checks (F (chosen code.now.field)) code.now.low (lent_rows (chosen code.now.field) code.now.k code.now.n code.now.g.now code.now.t.now code.now.t2.now) (elements (chosen code.now.field) opened.now.block.now) (elements (chosen code.now.field) opened.now.r.now) (elements (chosen code.now.field) opened.now.opening.now) queries.now) }
 {
+    let Opened {
+        depth,
+        block,
+        opening,
+        ..
+    } = *opened;
+    let RowCode { k, n, g, field, .. } = *code;
     let v = levels::final_words(depth, k, opening);
-    let bottom = levels::level_block(depth, low, k, n, 0, block, opening);
-    let first = base::bases(n, v, g, bottom, field);
-    if let Found::First(f) = first {
-        return Found::First(f);
-    }
-    folds::folds_rows(
-        depth, low, k, n, g, t, t2, block, r, queries, opening, field,
-    )
+    let bottom = levels::level_block(code, depth, 0, block, opening);
+    base::bases(n, v, g, bottom, field)?;
+    folds::folds_rows(code, opened, queries)
 }

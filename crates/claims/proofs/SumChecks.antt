@@ -18,7 +18,8 @@ use Rattle.residue.specs.ResidueLaws.{is_low, stands}
 use Rattle.residue.specs.declared.Residue.{Residue}
 use Rattle.verdict.specs.Equality.{its_word, same_words}
 use Rattle.claims.specs.Steps.{RoundSent, ChallengeSent, SumsInput, SumsResult}
-use Rattle.claims.specs.declared.sums.Claimed.TheVariants.{Last, Fails}
+use Rattle.std.specs.Prelude.{Ok, Err}
+use Rattle.verdict.specs.declared.Failure.TheVariants.{Sum}
 
 module _ (𝓕 : PrimeField) where
   infixl 65 ◌⊞◌
@@ -79,7 +80,7 @@ module _ (𝓕 : PrimeField) where
     pub sums_none : SumsLeft d y r o d y
     sums_none = record { left = omega arith; low = 𝓘.claim; first = λ low z. refl }
 
-    pub sums_end : (i : ℕ) (claim : Residue) → SumsLeft d y r o i claim → (0 < i → ⊥) → SumsResult 𝓕 d y r o (Last claim)
+    pub sums_end : (i : ℕ) (claim : Residue) → SumsLeft d y r o i claim → (0 < i → ⊥) → SumsResult 𝓕 d y r o (Ok claim)
     sums_end zero claim 𝓢 h = record { low = 𝓢.low; first = 𝓢.first }
     sums_end (suc i) claim 𝓢 h = absurd (h (omega arith))
 
@@ -94,7 +95,7 @@ module _ (𝓕 : PrimeField) where
     deep = length_elements 𝓕 r ∙ 𝓘.challenges
 
     module _ (i : ℕ) (claim : Residue) (𝓢 : SumsLeft d y r o (suc i) claim) where
-      fails : same F (sent F O d (suc i) 0 ⊞ sent F O d (suc i) 1) (elem 𝓕 claim) ≡ false → SumsResult 𝓕 d y r o (Fails (suc i))
+      fails : same F (sent F O d (suc i) 0 ⊞ sent F O d (suc i) 1) (elem 𝓕 claim) ≡ false → SumsResult 𝓕 d y r o (Err (Sum (suc i)))
       unfolding sums_from
       fails e =
           record {
@@ -115,7 +116,7 @@ module _ (𝓕 : PrimeField) where
                 ((λ k. through K (half 𝓕) (sent F O (deep k) (suc i) 0) (sent F O (deep k) (suc i) 1) (sent F O (deep k) (suc i) 2) (get_or_elements 𝓕 r i k)) ∙ sym (stands 𝓕 _ en));
           }
 
-    pub sums_fails : (i : ℕ) (claim : Residue) → SumsLeft d y r o i claim → 0 < i → same F (sent F O d i 0 ⊞ sent F O d i 1) (elem 𝓕 claim) ≡ false → SumsResult 𝓕 d y r o (Fails i)
+    pub sums_fails : (i : ℕ) (claim : Residue) → SumsLeft d y r o i claim → 0 < i → same F (sent F O d i 0 ⊞ sent F O d i 1) (elem 𝓕 claim) ≡ false → SumsResult 𝓕 d y r o (Err (Sum i))
     sums_fails zero claim 𝓢 h e = absurd (omega arith)
     sums_fails (suc i) claim 𝓢 h e = fails i claim 𝓢 e
 

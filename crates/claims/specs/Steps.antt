@@ -1,14 +1,15 @@
 -- What the steps of the sums are lent, and what the sums leave. Definitions only. Assumes nothing.
-use Rattle.std.specs.Prelude.{◌≡◌, List, ℕ, ◌≤◌, ◌<◌, length}
+use Rattle.std.specs.Prelude.{◌≡◌, List, ℕ, ◌≤◌, ◌<◌, length, Result, Ok, Err}
 use Rattle.std.proofs.Math.Option.{Option, some}
 use Rattle.algebra.specs.Words.{PrimeField}
 use Rattle.algebra.specs.WordLists.{Low as LowWords, elements}
 use Rattle.basefold.specs.Layout.{final_at, sent}
-use Rattle.basefold.specs.Checks.{Check, sum_check, first_failure, sums_from}
+use Rattle.basefold.specs.Checks.{Check, first_failure, sums_from}
 use Rattle.residue.specs.Elements.{Low, elem}
 use Rattle.residue.specs.declared.Residue.{Residue}
-use Rattle.claims.specs.declared.sums.Claimed.{Claimed}
-use Rattle.claims.specs.declared.sums.Claimed.TheVariants.{Last, Fails}
+use Rattle.verdict.specs.declared.Failure.{Failure}
+use Rattle.verdict.specs.declared.Failure.TheVariants.{Sum, Final, Base, Fold}
+use Rattle.verdict.specs.Verdicts.{check}
 
 module _ (𝓕 : PrimeField) where
   infixl 65 ◌⊞◌
@@ -41,15 +42,19 @@ module _ (𝓕 : PrimeField) where
     pub opening : LowWords P o
 
   -- the first failure by the answer of the sums: sum i failed, or the final check decides
-  abbrev pub after_sums : (low : ℕ) (o z r : List Element) → Claimed → Option Check
-  after_sums low o z r (Last w) = first_failure (sums_from F low o z r 0 (elem 𝓕 w))
-  after_sums low o z r (Fails i) = some (sum_check i)
+  abbrev pub after_sums : (low : ℕ) (o z r : List Element) → Result Residue Failure → Option Check
+  after_sums low o z r (Ok w) = first_failure (sums_from F low o z r 0 (elem 𝓕 w))
+  after_sums low o z r (Err f) = some (check f)
 
-  abbrev pub LowClaim : Claimed → Type 0
-  LowClaim (Last w) = Low 𝓕 w
-  LowClaim (Fails i) = Unit {0}
+  -- the claim that is left is below the modulus; what fails is a sum
+  abbrev pub LowClaim : Result Residue Failure → Type 0
+  LowClaim (Ok w) = Low 𝓕 w
+  LowClaim (Err (Sum i)) = Unit {0}
+  LowClaim (Err Final) = ⊥
+  LowClaim (Err (Base j)) = ⊥
+  LowClaim (Err (Fold q i)) = ⊥
 
   -- the answer s of the sums from the top one on, with any number of low variables and at every point
-  pub record SumsResult (d : ℕ) (y : Residue) (r o : List ℕ) (s : Claimed) : Type 0 where
+  pub record SumsResult (d : ℕ) (y : Residue) (r o : List ℕ) (s : Result Residue Failure) : Type 0 where
     pub low : LowClaim s
     pub first : (low : ℕ) (z : List Element) → first_failure (sums_from F low (elements 𝓕 o) z (elements 𝓕 r) d (elem 𝓕 y)) ≡ after_sums low (elements 𝓕 o) z (elements 𝓕 r) s

@@ -9,13 +9,7 @@ ghost use Rattle.residue.specs.Chosen.{chosen};
 ghost use Rattle.claims.specs.Steps.{RoundSent, round_sum, ChallengeSent, SumsInput, SumsResult};
 
 use residue::{Field, Residue};
-
-// The claim that is left, or the sum that fails.
-#[derive(Clone, Copy)]
-pub enum Claimed {
-    Last(Residue),
-    Fails(u32),
-}
+use verdict::Failure;
 
 // Of degree at most 2, with the values a, b, c at 0, 1, 2: at x, by differences.
 fn through(a: Residue, b: Residue, c: Residue, x: Residue, field: Field) -> Residue
@@ -52,18 +46,22 @@ fn next_claim(depth: u32, i: u32, r: &[u32], opening: &[u32], field: Field) -> R
     through(a, b, c, Residue::new(r[(i - 1) as usize], field), field)
 }
 
-pub fn sums(depth: u32, y: Residue, r: &[u32], opening: &[u32], field: Field) -> Claimed
+pub fn sums(
+    depth: u32,
+    y: Residue,
+    r: &[u32],
+    opening: &[u32],
+    field: Field,
+) -> Result<Residue, Failure>
     requires { SumsInput (chosen field) depth y r.now opening.now }
     ensures { SumsResult (chosen field) depth y r.now opening.now result }
 {
-    let mut i = depth;
     let mut claim = y;
-    while 0 < i {
+    for i in (1..=depth).rev() {
         if !sum_holds(depth, i, claim, opening, field) {
-            return Claimed::Fails(i);
+            return Err(Failure::Sum(i));
         }
         claim = next_claim(depth, i, r, opening, field);
-        i -= 1;
     }
-    Claimed::Last(claim)
+    Ok(claim)
 }

@@ -16,10 +16,8 @@ pub fn all_in_range(s: &[i32], field: Field) -> bool
     let max = clearance::max_clearance(field);
     let min = -max;
     let mut ok = true;
-    let mut i = 0;
-    while i < s.len() {
-        ok = ok & clearance::in_range(s[i], min, max);
-        i += 1;
+    for x in s {
+        ok &= clearance::in_range(*x, min, max);
     }
     ok
 }
@@ -30,10 +28,8 @@ pub fn to_words(s: &[i32], out: &mut [u32], field: Field)
     ensures { out.new ≡ map (residue_of (chosen field)) s.now }
 {
     let p = Residue::modulus(field);
-    let mut i = 0;
-    while i < s.len() {
+    for i in 0..s.len() {
         out[i] = clearance::to_word(s[i], p);
-        i += 1;
     }
 }
 
@@ -44,11 +40,9 @@ pub fn to_clearances(s: &mut [u32], out: &mut [i32], field: Field)
 {
     let p = Residue::modulus(field);
     let border = Residue::half(field).word();
-    let mut i = 0;
-    while i < s.len() {
+    for i in 0..s.len() {
         let x = clearance::to_clearance(s[i], border, p);
         out[i] = x;
         s[i] = 0;
-        i += 1;
     }
 }

@@ -11,7 +11,7 @@ use Rattle.algebra.specs.Words.{PrimeField}
 use Rattle.algebra.specs.WordLists.{Low, elements, to_words}
 use Rattle.multilinear.specs.Table.{coefficients}
 use Rattle.job.specs.declared.Refusal.{Refusal}
-use Rattle.job.specs.declared.Answer.TheVariants.{Done, Refused}
+use Rattle.std.specs.Prelude.{Ok, Err}
 use Rattle.job.specs.Outcome.{refused, done, due}
 use Rattle.clearance.specs.Clearances.{in_range, residue_of}
 use Rattle.clearance.specs.ClearanceLaws.{residue_lt}
@@ -45,8 +45,8 @@ module _ (𝓕 : PrimeField) where
 
   -- the job, done and refused
   module _ (k : ℕ) (t : List ℤ) (old : List ℕ) where
-    pub coefficients_done : (new : List ℕ) → done tt ≡ judge_table 𝓕 k t (length old) → MessageOf 𝓕 t new → Coefficients 𝓕 k t old new Done
+    pub coefficients_done : (new : List ℕ) → done tt ≡ judge_table 𝓕 k t (length old) → MessageOf 𝓕 t new → Coefficients 𝓕 k t old new (Ok tt)
     coefficients_done new e f = record { answer = e; message = subst (λ o. Leaves o old new (MessageOf 𝓕 t new)) e f }
 
-    pub coefficients_refused : (r : Refusal) → refused (due r) ≡ judge_table 𝓕 k t (length old) → Coefficients 𝓕 k t old old (Refused r)
+    pub coefficients_refused : (r : Refusal) → refused (due r) ≡ judge_table 𝓕 k t (length old) → Coefficients 𝓕 k t old old (Err r)
     coefficients_refused r e = record { answer = e; message = subst (λ o. Leaves o old old (MessageOf 𝓕 t old)) e refl }

@@ -4,7 +4,7 @@ use Rattle.algebra.specs.Tests.{all}
 use Rattle.algebra.specs.Words.{PrimeField}
 use Rattle.algebra.specs.WordLists.{Low, elements}
 use Rattle.multilinear.specs.Table.{table}
-use Rattle.job.specs.declared.Answer.{Answer}
+use Rattle.job.specs.Outcome.{Answer}
 use Rattle.job.specs.Outcome.{Outcome, refused, done, require, ◌⨾◌, outcome}
 use Rattle.job.specs.Sizes.{k0_ok}
 use Rattle.residue.specs.Elements.{P, K, el}

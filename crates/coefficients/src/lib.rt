@@ -13,22 +13,18 @@ ghost use Rattle.table_length.specs.Depth.{is_power, exponent};
 ghost use Rattle.coefficients.specs.Job.{judge_table, ToCoefficients};
 
 use clearance::slices;
-use job::{Answer, Parameters, Refusal, sizes};
+use job::{Parameters, Refusal, sizes};
 use residue::Field;
 use transform::Way;
 
-// The tests are made before any refusal, which costs a refused call one scan. Depth and rate are not asked.
-fn judge(p: Parameters, clearances: &[i32], len: usize, field: Field) -> Answer
+// Depth and rate are not asked.
+fn judge(p: Parameters, clearances: &[i32], len: usize, field: Field) -> Result<(), Refusal>
     ensures { outcome result ≡ judge_table (chosen field) p.k0 clearances.now len }
 {
-    let fits = table_length::table_ok(p, clearances.len());
-    let k0 = sizes::k0_ok(p);
-    let same = len == clearances.len();
-    let in_range = slices::all_in_range(clearances, field);
-    let range = job::require(in_range, Refusal::Clearance, Answer::Done);
-    let lengths = job::require(same, Refusal::Length, range);
-    let base = job::require(k0, Refusal::BaseWords, lengths);
-    job::require(fits, Refusal::Depth, base)
+    job::require(table_length::table_ok(p, clearances.len()), Refusal::Depth)?;
+    job::require(sizes::k0_ok(p), Refusal::BaseWords)?;
+    job::require(len == clearances.len(), Refusal::Length)?;
+    job::require(slices::all_in_range(clearances, field), Refusal::Clearance)
 }
 
 fn find(clearances: &[i32], message: &mut [u32], field: Field)
@@ -47,15 +43,10 @@ pub fn table_to_coefficients(
     clearances: &[i32],
     message: &mut [u32],
     field: Field,
-) -> Answer
+) -> Result<(), Refusal>
     ensures { ToCoefficients (chosen field) p.k0 clearances.now message.old message.new result }
 {
-    let verdict = judge(p, clearances, message.len(), field);
-    match verdict {
-        Answer::Done => {
-            find(clearances, message, field);
-            Answer::Done
-        }
-        Answer::Refused(r) => Answer::Refused(r),
-    }
+    judge(p, clearances, message.len(), field)?;
+    find(clearances, message, field);
+    Ok(())
 }

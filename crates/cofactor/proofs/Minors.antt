@@ -11,7 +11,7 @@ use Rattle.algebra.specs.WordLists.{Low}
 use Rattle.residue.specs.ResidueLaws.{stands}
 use Rattle.determinant.specs.Determinant.{without, minor, sign, det}
 use Rattle.determinant.specs.Sizes.{det₃, det_one, det_three, plus, minus}
-use Rattle.cofactor.specs.declared.three.Triple.{Triple}
+use Rattle.cofactor.specs.declared.three.RowOfThree.{RowOfThree}
 use Rattle.job.specs.Sizes.{Size, one, two, four}
 use Rattle.cofactor.specs.Rows.{first_columns}
 use Rattle.cofactor.specs.RowLaws.{table, first_columns_lem, row_within}
@@ -59,7 +59,7 @@ size_one four p q = absurd (p refl)
 pub place_within : (g : List ℕ) (b j : ℕ) → b + 4 ≤ length g → {r s : ℕ} → r < 3 → s ≡ skip j r → b + s < length g
 place_within g b j within {r} h e = omega (arith, skip_most j r)
 
-pub row_read : (𝓕 : PrimeField) (n : ℕ) (g : List ℕ) (i j : ℕ) → i * n + 4 ≤ length g → Low 𝓕.modulus g → {a b c : ℕ} {t : Triple}
+pub row_read : (𝓕 : PrimeField) (n : ℕ) (g : List ℕ) (i j : ℕ) → i * n + 4 ≤ length g → Low 𝓕.modulus g → {a b c : ℕ} {t : RowOfThree}
     → a ≡ skip j 0 → b ≡ skip j 1 → c ≡ skip j 2
     → t.a.0 ≡ get_or g (i * n + a) 0 → t.b.0 ≡ get_or g (i * n + b) 0 → t.c.0 ≡ get_or g (i * n + c) 0 → RowOf 𝓕 n g i j t
 row_read 𝓕 n g i j within l p q s x y z = record {
@@ -133,7 +133,7 @@ module _ (𝓕 : PrimeField) where
         sym (W.val_el _ (rw f (𝓟.lent.low.low (skip i 0 * n + skip j 0) (omega arith)))) ∙ ap word (ap el f ∙ sym (two_is i j 𝓟))
 
     -- the three rows of four, as they were read
-    pub four_value : (i j : ℕ) → PlaceLent 𝓕 4 n g i j → {a b c : ℕ} {x y z : Triple} {r : ℕ} → a ≡ skip i 0 → b ≡ skip i 1 → c ≡ skip i 2
+    pub four_value : (i j : ℕ) → PlaceLent 𝓕 4 n g i j → {a b c : ℕ} {x y z : RowOfThree} {r : ℕ} → a ≡ skip i 0 → b ≡ skip i 1 → c ≡ skip i 2
         → RowOf 𝓕 n g a j x → RowOf 𝓕 n g b j y → RowOf 𝓕 n g c j z → r ≡ word (three_rows 𝓕 x y z) → r ≡ word (minor_at 𝓕 4 n g i j)
     four_value i j 𝓟 p q s x y z e =
         let a = read_at (skip i 0) (skip j 0) p x.first in

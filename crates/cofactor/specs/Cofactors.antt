@@ -5,7 +5,7 @@ use Rattle.residue.specs.Elements.{elem, Low}
 use Rattle.residue.specs.declared.Residue.{Residue}
 use Rattle.determinant.specs.Determinant.{minor, sign, det}
 use Rattle.determinant.specs.Sizes.{det₃}
-use Rattle.cofactor.specs.declared.three.Triple.{Triple}
+use Rattle.cofactor.specs.declared.three.RowOfThree.{RowOfThree}
 use Rattle.cofactor.specs.Rows.{first_columns, Lent}
 
 -- where place r of a list without its place i stands in the list
@@ -34,13 +34,13 @@ module _ (𝓕 : PrimeField) where
     pub row : i < k
     pub column : j < k
 
-  pub record LowTriple (t : Triple) : Type 0 where
+  pub record LowTriple (t : RowOfThree) : Type 0 where
     pub low_a : Low 𝓕 t.a
     pub low_b : Low 𝓕 t.b
     pub low_c : Low 𝓕 t.c
 
   -- t is row i without column j, of four columns
-  pub record RowOf (n : ℕ) (g : List ℕ) (i j : ℕ) (t : Triple) : Type 0 where
+  pub record RowOf (n : ℕ) (g : List ℕ) (i j : ℕ) (t : RowOfThree) : Type 0 where
     pub first : t.a.0 ≡ get_or g (i * n + skip j 0) 0
     pub second : t.b.0 ≡ get_or g (i * n + skip j 1) 0
     pub third : t.c.0 ≡ get_or g (i * n + skip j 2) 0
@@ -50,6 +50,6 @@ module _ (𝓕 : PrimeField) where
   abbrev pub two_rows : Residue → Residue → Residue → Residue → Element
   two_rows a b c d = elem 𝓕 a ⊠ elem 𝓕 d ⊟ elem 𝓕 b ⊠ elem 𝓕 c
 
-  abbrev pub three_rows : Triple → Triple → Triple → Element
+  abbrev pub three_rows : RowOfThree → RowOfThree → RowOfThree → Element
   three_rows x y z =
       det₃ K (elem 𝓕 x.a) (elem 𝓕 x.b) (elem 𝓕 x.c) (elem 𝓕 y.a) (elem 𝓕 y.b) (elem 𝓕 y.c) (elem 𝓕 z.a) (elem 𝓕 z.b) (elem 𝓕 z.c)

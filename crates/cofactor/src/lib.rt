@@ -7,7 +7,7 @@ ghost use Rattle.residue.specs.Elements.{P, word};
 ghost use Rattle.residue.specs.Chosen.{chosen};
 ghost use Rattle.cofactor.specs.Cofactors.{skip as skipped, minor_at, cofactor_at, PlaceLent, RowOf};
 
-use crate::three::Triple;
+use crate::three::RowOfThree;
 use residue::{Field, Residue};
 
 pub mod three;
@@ -21,7 +21,7 @@ fn skip(i: usize, r: usize) -> usize
 }
 
 // Row i without column j, of four columns.
-fn row_of(n: usize, g: &[u32], i: usize, j: usize, field: Field) -> Triple
+fn row_of(n: usize, g: &[u32], i: usize, j: usize, field: Field) -> RowOfThree
     requires { (i * n + 4 ≤ length g.now) × Low (P (chosen field)) g.now }
     ensures { RowOf (chosen field) n g.now i j result }
 {
@@ -29,7 +29,7 @@ fn row_of(n: usize, g: &[u32], i: usize, j: usize, field: Field) -> Triple
     let a = g[at + skip(j, 0)];
     let b = g[at + skip(j, 1)];
     let c = g[at + skip(j, 2)];
-    Triple {
+    RowOfThree {
         a: Residue::new(a, field),
         b: Residue::new(b, field),
         c: Residue::new(c, field),
@@ -47,7 +47,7 @@ fn minor_of_four(n: usize, g: &[u32], i: usize, j: usize, field: Field) -> Resid
     three::det3(x, y, z, field)
 }
 
-// What is left of two rows: one word.
+// What is left of two rows: one word. A function for both numbers of rows would be no plainer: of four a determinant of three is left.
 fn minor_of_two(n: usize, g: &[u32], i: usize, j: usize, field: Field) -> Residue
     requires { PlaceLent (chosen field) 2 n g.now i j }
     ensures { result.0 ≡ word (chosen field) (minor_at (chosen field) 2 n g.now i j) }
@@ -60,13 +60,11 @@ fn minor(k: usize, n: usize, g: &[u32], i: usize, j: usize, field: Field) -> Res
     requires { PlaceLent (chosen field) k n g.now i j }
     ensures { result.0 ≡ word (chosen field) (minor_at (chosen field) k n g.now i j) }
 {
-    if k == 4 {
-        return minor_of_four(n, g, i, j, field);
+    match k {
+        4 => minor_of_four(n, g, i, j, field),
+        2 => minor_of_two(n, g, i, j, field),
+        _ => Residue::ONE,
     }
-    if k == 2 {
-        return minor_of_two(n, g, i, j, field);
-    }
-    Residue::ONE
 }
 
 // The determinant without row i and column j, with its sign.

@@ -7,8 +7,8 @@ ghost use Rattle.cofactor.specs.Cofactors.{LowTriple, two_rows, three_rows};
 use residue::{Field, Residue};
 
 // A row of three.
-#[derive(Clone, Copy)]
-pub struct Triple {
+#[derive(Clone, Copy, Debug, PartialEq, Eq)]
+pub struct RowOfThree {
     pub a: Residue,
     pub b: Residue,
     pub c: Residue,
@@ -25,7 +25,7 @@ fn det2(a: Residue, b: Residue, c: Residue, d: Residue, field: Field) -> Residue
 }
 
 // Of the rows x, y and z, along x.
-pub fn det3(x: Triple, y: Triple, z: Triple, field: Field) -> Residue
+pub fn det3(x: RowOfThree, y: RowOfThree, z: RowOfThree, field: Field) -> Residue
     requires { LowTriple (chosen field) x × LowTriple (chosen field) y × LowTriple (chosen field) z }
     ensures { result.0 ≡ word (chosen field) (three_rows (chosen field) x y z) }
 {

@@ -14,9 +14,8 @@ pub fn cross(n: usize, a: usize, c: usize, t: &[u32], t2: &[u32], w: &mut [u32],
     requires { CrossLent (chosen field) n a c t.now t2.now w.old }
     ensures { w.new ≡ crossed (chosen field) (every 0 c a n t.now) (every 0 c a n t2.now) w.old }
 {
-    let mut i = 0;
     let mut p = a;
-    while i < n {
+    for i in 0..n {
         let k = n + i;
         let l = w[i];
         let r = w[k];
@@ -25,7 +24,6 @@ pub fn cross(n: usize, a: usize, c: usize, t: &[u32], t2: &[u32], w: &mut [u32],
         w[i] = u;
         w[k] = v;
         p += c;
-        i += 1;
     }
 }
 
@@ -35,12 +33,10 @@ pub fn same_places(j: usize, c: usize, block: &[u32], w: &[u32]) -> bool
     ensures { result ≡ all_same w.now (every 0 c j (length w.now) block.now) }
 {
     let mut ok = true;
-    let mut i = 0;
     let mut p = j;
-    while i < w.len() {
-        ok = ok & (w[i] == block[p]);
+    for i in 0..w.len() {
+        ok &= w[i] == block[p];
         p += c;
-        i += 1;
     }
     ok
 }

@@ -14,7 +14,7 @@ use crate::column;
 use residue::Field;
 
 // Half a column of a level, and where column j of the level's diagonal begins.
-#[derive(Clone, Copy)]
+#[derive(Clone, Copy, Debug, PartialEq, Eq)]
 pub struct ColumnHalf {
     pub half: usize,
     pub off: usize,
@@ -28,9 +28,9 @@ fn column_half(depth: u32, j: usize, c: usize) -> ColumnHalf
     let low = depth - 1;
     let half = job::message_len(low);
     ColumnHalf {
-        half: half,
+        half,
         off: j + c * (half - 1),
-        low: low,
+        low,
     }
 }
 

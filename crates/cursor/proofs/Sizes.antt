@@ -31,12 +31,11 @@ pub sizing_none : (xs : List ℕ) → Sizing xs 0 0
 sizing_none xs = record { few = omega arith; sum = omega arith }
 
 module _ {xs : List ℕ} {total i : ℕ} (𝓢 : Sizing xs total i) where
-  module _ {s : ℕ} (within : i < length xs) (e : s ≡ length (bytes (get_or xs i 0))) where
-    pub sizing_most : total + s ≤ longest * length xs
-    sizing_most = let sum = 𝓢.sum in omega (arith, length_next xs i within, e, few_all xs)
+  pub sizing_most : total ≤ longest * length xs
+  sizing_most = let sum = 𝓢.sum in omega (arith, few_all xs)
 
-    pub sizing_turn : Sizing xs (total + s) (i + 1)
-    sizing_turn = let sum = 𝓢.sum in record { few = omega arith; sum = omega (arith, length_next xs i within, e) }
+  pub sizing_turn : {s : ℕ} → i < length xs → s ≡ length (bytes (get_or xs i 0)) → Sizing xs (total + s) (i + 1)
+  sizing_turn within e = let sum = 𝓢.sum in record { few = omega arith; sum = omega (arith, length_next xs i within, e) }
 
   pub sizing_end : length xs ≤ i → total ≡ length (all_bytes xs)
   sizing_end h = let sum = 𝓢.sum in omega (arith, ap length (bytes_end xs i h))

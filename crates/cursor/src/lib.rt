@@ -6,78 +6,65 @@ ghost use Rattle.job.specs.Outcome.{Numbers};
 ghost use Rattle.cursor.specs.Walk.{under, judged, walk, entry, listed, after};
 ghost use Rattle.cursor.specs.Shown.{told};
 
-use numeral::read::{Read, read_number};
+pub use numeral::read::Entry;
+use numeral::read::read_number;
 
 pub mod write;
 
-// The place after what was read, or the first fault.
-#[derive(Clone, Copy)]
-pub enum Skimmed {
-    At(usize),
+// Why a pass over numbers stops.
+#[derive(Clone, Copy, Debug, PartialEq, Eq)]
+pub enum Fault {
     Ends,
     Malformed,
     // The index of the first number that is not below the limit.
     High(usize),
 }
 
-// What stands at a place.
-#[derive(Clone, Copy)]
-pub struct Entry {
-    pub value: u32,
-    pub next: usize,
-}
+impl From<numeral::read::Fault> for Fault {
+    ghost use Rattle.std.specs.Prelude.{◌≡◌};
+    ghost use Rattle.cursor.specs.Shown.{handed_on};
 
-// One number, judged as it is read.
-fn step(bytes: &[u8], at: usize, index: usize, limit: u32) -> Skimmed
-    ensures { (fault : ℕ → Numbers) → told fault result ≡ judged (under limit fault) index bytes.now at }
-{
-    let read = read_number(bytes, at);
-    match read {
-        Read::Number { value, next } => {
-            if value < limit {
-                return Skimmed::At(next);
-            }
-            Skimmed::High(index)
+    ghost from_gives = { λ fault e. e ≡ handed_on fault };
+
+    fn from(fault: numeral::read::Fault) -> Self {
+        match fault {
+            numeral::read::Fault::Ends => Fault::Ends,
+            numeral::read::Fault::Malformed => Fault::Malformed,
         }
-        Read::Ends => Skimmed::Ends,
-        Read::Malformed => Skimmed::Malformed,
     }
 }
 
-// First pass: n numbers from a place on, each below limit. The first fault decides; nothing is stored. What a number that is too large is refused
-// with is the caller's to say, so the contract holds of every such fault.
-pub fn skim(bytes: &[u8], at: usize, n: usize, limit: u32) -> Skimmed
+// One number, judged as it is read: the place after it.
+fn step(bytes: &[u8], at: usize, index: usize, limit: u32) -> Result<usize, Fault>
+    ensures { (fault : ℕ → Numbers) → told fault result ≡ judged (under limit fault) index bytes.now at }
+{
+    let read = read_number(bytes, at)?;
+    if read.value < limit {
+        Ok(read.next)
+    } else {
+        Err(Fault::High(index))
+    }
+}
+
+// First pass: n numbers from a place on, each below limit; the place after them. The first fault decides; nothing is stored. What a number that is
+// too large is refused with is the caller's to say, so the contract holds of every such fault.
+pub fn skim(bytes: &[u8], at: usize, n: usize, limit: u32) -> Result<usize, Fault>
     ensures { (fault : ℕ → Numbers) → told fault result ≡ walk (under limit fault) 0 n bytes.now at }
 {
     let mut here = at;
-    let mut k: usize = 0;
-    while k < n {
-        let read = step(bytes, here, k, limit);
-        match read {
-            Skimmed::At(next) => {
-                here = next;
-            }
-            _ => {
-                return read;
-            }
-        }
-        k += 1;
+    for k in 0..n {
+        here = step(bytes, here, k, limit)?;
     }
-    Skimmed::At(here)
+    Ok(here)
 }
 
 // The number at a place; 0, and the same place, where none stands.
 pub fn entry_at(bytes: &[u8], at: usize) -> Entry
     ensures { (result.value, result.next) ≡ entry bytes.now at }
 {
-    let read = read_number(bytes, at);
-    match read {
-        Read::Number { value, next } => Entry {
-            value: value,
-            next: next,
-        },
-        Read::Ends => Entry { value: 0, next: at },
-        Read::Malformed => Entry { value: 0, next: at },
+    match read_number(bytes, at) {
+        Ok(e) => e,
+        Err(_) => Entry { value: 0, next: at },
     }
 }
 
@@ -86,12 +73,10 @@ pub fn fill(bytes: &[u8], at: usize, out: &mut [u32]) -> usize
     ensures { (result ≡ after (length out.old) bytes.now at) × (out.new ≡ listed (length out.old) bytes.now at) }
 {
     let mut here = at;
-    let mut i: usize = 0;
-    while i < out.len() {
+    for i in 0..out.len() {
         let e = entry_at(bytes, here);
         out[i] = e.value;
         here = e.next;
-        i += 1;
     }
     here
 }

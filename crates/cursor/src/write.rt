@@ -7,11 +7,9 @@ ghost use Rattle.cursor.specs.Numerals.{all_bytes};
 pub fn size_all(words: &[u32]) -> usize
     ensures { result ≡ length (all_bytes words.now) }
 {
-    let mut total: usize = 0;
-    let mut i: usize = 0;
-    while i < words.len() {
-        total += numeral::write::size(words[i]);
-        i += 1;
+    let mut total = 0;
+    for w in words {
+        total += numeral::write::size(*w);
     }
     total
 }
@@ -22,11 +20,8 @@ pub fn write_all(words: &[u32], out: &mut [u8], at: usize) -> usize
     ensures { (result ≡ at + length (all_bytes words.now)) × (out.new ≡ put at (all_bytes words.now) out.old) }
 {
     let mut here = at;
-    let mut k: usize = 0;
-    while k < words.len() {
-        let next = numeral::write::write_number(words[k], out, here);
-        here = next;
-        k += 1;
+    for word in words {
+        here = numeral::write::write_number(*word, out, here);
     }
     here
 }

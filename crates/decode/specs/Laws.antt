@@ -15,7 +15,7 @@ use Rattle.determinant.specs.Determinant.{inverse}
 use Rattle.determinant.specs.Exactly.{invertible, singular_exactly}
 use Rattle.determinant.specs.Inverse.{Inverse, Singular}
 use Rattle.blocks.specs.Decoders.{unique_inverse}
-use Rattle.job.specs.declared.Answer.{Answer}
+use Rattle.job.specs.Outcome.{Answer}
 use Rattle.job.specs.declared.Input.TheVariants.{Block}
 use Rattle.job.specs.declared.Refusal.TheVariants.{BaseRow}
 use Rattle.job.specs.Outcome.{Numbers, Outcome, refused, done, due, demand, outcome}

@@ -1,7 +1,7 @@
 -- The job of encoding: its answer and its result, for every input. Definitions only. Assumes nothing.
 use Rattle.std.specs.Prelude.{◌≡◌, Bool, ◌&&◌, List, [], ◌∷◌, ℕ, eqb, length}
 use Rattle.algebra.specs.Words.{PrimeField}
-use Rattle.job.specs.declared.Answer.{Answer}
+use Rattle.job.specs.Outcome.{Answer}
 use Rattle.job.specs.declared.Input.TheVariants.{Block}
 use Rattle.job.specs.Outcome.{Outcome, outcome, kept}
 use Rattle.job.specs.Limits.{block_size}

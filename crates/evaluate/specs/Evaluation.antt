@@ -3,17 +3,10 @@ use Rattle.std.specs.Prelude.{Bool, ◌&&◌, List, [], ◌∷◌, ℕ, eqb, len
 use Rattle.algebra.specs.Words.{PrimeField}
 use Rattle.algebra.specs.WordLists.{elements}
 use Rattle.job.specs.declared.Input.TheVariants.{Block, Z}
-use Rattle.job.specs.Outcome.{Outcome, refused, done, require, ◌⨾◌, due}
+use Rattle.job.specs.Outcome.{Outcome, done, require, ◌⨾◌}
 use Rattle.job.specs.Sizes.{k0_ok, depth_ok, message_size, point_size}
 use Rattle.multilinear.specs.Polynomial.{poly}
 use Rattle.places.specs.Inputs.{Lent, judge_words}
-use Rattle.evaluate.specs.declared.Evaluation.{Evaluation}
-use Rattle.evaluate.specs.declared.Evaluation.TheVariants.{Value, Refused}
-
--- what an answer says: the value's word, or the refusal's number
-abbrev pub evaluation_outcome : Evaluation → Outcome ℕ
-evaluation_outcome (Value v) = done v
-evaluation_outcome (Refused r) = refused (due r)
 
 -- of the lengths of message and point
 unfoldable pub evaluate_lengths : ℕ → ℕ → ℕ → ℕ → Bool

@@ -1,16 +1,11 @@
 // One run from a message to a verified opening: depth 1, rate 2, the message 5 + 7 X at the point 3.
 #![tactic(auto)]
 
-use job::Parameters;
 use std::io;
 use tvarchula::{coding, opening};
 
 fn main(rt: HostRuntime) -> io::Result<()> {
-    let p = Parameters {
-        depth: 1,
-        rate: 2,
-        k0: 1,
-    };
+    let p = print::parameters(1, 2, 1);
     let g = [1u32, 1];
     let t = [2u32, 3];
     let t2 = [2147483645u32, 2147483644];

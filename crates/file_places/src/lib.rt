@@ -12,16 +12,14 @@ pub fn first_zero(bytes: &[u8], at: usize, n: usize) -> usize
     ensures { result ≡ zero_place (listed n bytes.now at) }
 {
     let mut here = at;
-    let mut i: usize = 0;
-    while i < n {
+    for i in 0..n {
         let e = entry_at(bytes, here);
         if e.value == 0 {
             return i;
         }
         here = e.next;
-        i += 1;
     }
-    i
+    n
 }
 
 // The first index at which the n numbers from place a on and the n from place b on are equal; n where none is. Two cursors walk the file.
@@ -30,8 +28,7 @@ pub fn first_equal(bytes: &[u8], a: usize, b: usize, n: usize) -> usize
 {
     let mut here = a;
     let mut there = b;
-    let mut j: usize = 0;
-    while j < n {
+    for j in 0..n {
         let e = entry_at(bytes, here);
         let f = entry_at(bytes, there);
         if e.value == f.value {
@@ -39,7 +36,6 @@ pub fn first_equal(bytes: &[u8], a: usize, b: usize, n: usize) -> usize
         }
         here = e.next;
         there = f.next;
-        j += 1;
     }
-    j
+    n
 }

@@ -1,6 +1,6 @@
 -- The job of filling: which rates have a rule, its answer, and what it leaves in the three slices, for every input. Definitions only. Assumes nothing.
-use Rattle.std.specs.Prelude.{◌≡◌, Bool, cond, List, ℕ, zero, suc, ◌^◌, eqb, length}
-use Rattle.job.specs.declared.Answer.{Answer}
+use Rattle.std.specs.Prelude.{◌≡◌, Bool, cond, List, ℕ, zero, suc, ◌^◌, eqb, length, Option, Some, None}
+use Rattle.job.specs.Outcome.{Answer}
 use Rattle.job.specs.Outcome.{Outcome, outcome, require, ◌⨾◌, kept}
 use Rattle.job.specs.Limits.{rate_ok}
 use Rattle.job.specs.Sizes.{depth_ok}
@@ -24,6 +24,10 @@ exponent c = exponent_to c c
 -- the test for 12
 abbrev pub is_two_power : ℕ → Bool
 is_two_power c = eqb c (2 ^ exponent c)
+
+-- the exponent of a power of two
+abbrev pub exponent_found : ℕ → Option ℕ
+exponent_found c = cond (is_two_power c) (Some (exponent c)) None
 
 -- the outcome at depth d, rate c and k words a base message, of which this rule has one, for slices of g, t and t' words
 abbrev pub judge_filling : (d c k g t t' : ℕ) → Outcome (Unit {0})

@@ -9,7 +9,7 @@ use Rattle.algebra.specs.Words.{𝔽₂}
 use Rattle.algebra.specs.WordLists.{elements, to_words}
 use Rattle.roots.specs.RootCode.{Order, powers, value, reversed}
 use Rattle.roots.specs.SecondField.{root₂}
-use Rattle.job.specs.declared.Answer.{Answer}
+use Rattle.job.specs.Outcome.{Answer}
 use Rattle.job.specs.Outcome.{unplaced, Outcome, refused, done, outcome, require, ◌⨾◌, kept}
 use Rattle.job.specs.OutcomeLaws.{stop, pass, holds, refuses, held, require_done}
 use Rattle.job.specs.Limits.{max_depth, max_rate, rate_ok, block_size, diagonals_size}

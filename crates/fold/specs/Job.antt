@@ -4,7 +4,7 @@ use Rattle.algebra.specs.Words.{PrimeField}
 use Rattle.job.specs.Limits.{rate_ok, block_size}
 use Rattle.job.specs.Sizes.{k0_ok, base_size}
 use Rattle.job.specs.Outcome.{Outcome, require, ◌⨾◌, kept, outcome}
-use Rattle.job.specs.declared.Answer.{Answer}
+use Rattle.job.specs.Outcome.{Answer}
 use Rattle.job.specs.declared.Input.TheVariants.{T, T2, Block, R}
 use Rattle.places.specs.Inputs.{Lent, judge_words, no_equal}
 use Rattle.lines.specs.Folds.{fold_words}

@@ -5,9 +5,9 @@ use mathlib.Core.List.{List, ◌++◌}
 use Prim.Native.Nat.{ℕ, ◌+◌, ◌<◌, ◌≤◌}
 use native.Mathlib.Omega.{arith}
 use lib.Dec.{eqb}
-use lib.ListN.{length, take, drop, get_or, set, length-append, length-take, length-drop, get_or-append}
-use lib.Seq.{get_or-take, get_or-drop, ext_get_or}
-use Rattle.algebra.specs.Filling.{Filled, filled_none, filled_turn, filled_end, filled_old, filled_new, filled_length}
+use lib.ListN.{length, take, drop, get_or, set, length-take, length-drop}
+use lib.Seq.{get_or-take, get_or-drop, take_at, drop-drop}
+use Rattle.algebra.specs.Filling.{Filled, filled_none, filled_turn, filled_end, filled_old, filled_length}
 use Rattle.algebra.specs.Lists.{zip, length_zip, get_or_zip}
 use Rattle.algebra.specs.Tests.{all₂_none, all₂_turn, all₂_end, all_same}
 use Rattle.algebra.specs.Words.{PrimeField}
@@ -146,79 +146,56 @@ module _ (𝓕 : PrimeField) where
           left = filled_end (omega (arith, 𝓟.right)) (length_peeled n u t r lu refl 𝓟.right ∙ sym 𝓟.right) p.1;
         }
 
-  abbrev pub FrontTo : List ℕ → List ℕ → List ℕ → ℕ → Bool → List ℕ → Type 0
-  FrontTo t t' w i ok out =
-      FlagTo t t' (first_of t w) (second_of t w) (third_of t w) i ok × Filled i (peeled 𝓕 (first_of t w) t (third_of t w) ++ drop (length t) w) w out
+  -- of a block in front of w, taken apart: its halves, and the codeword behind it
+  abbrev pub PartsTo : List ℕ → List ℕ → List ℕ → List ℕ → List ℕ → ℕ → Bool → List ℕ → Type 0
+  PartsTo t t' u v r i ok out = FlagTo t t' u v r i ok × Filled i (peeled 𝓕 u t r) u out
 
-  module _ (t t' w : List ℕ) (𝓟 : FrontPeel 𝓕 t t' w) where
-    l₁ : length (first_of t w) ≡ length t
-    l₁ = let s = 𝓟.size in simp length-take (omega arith)
+  module _ (t t' w : List ℕ) (𝓟 : FrontPeel 𝓕 t t' w) {u rest v r : List ℕ} (eu : u ≡ take (length t) w) (eb : rest ≡ drop (length t) w) (ev : v ≡ take (length t) rest) (er : r ≡ drop (length t) rest) where
+    v_is : v ≡ second_of t w
+    v_is = ev ∙ ap (take (length t)) eb
 
-    l₂ : length (second_of t w) ≡ length t
-    l₂ = let s = 𝓟.size in simp (length-take, length-drop) (omega arith)
+    r_is : r ≡ third_of t w
+    r_is = er ∙ ap (drop (length t)) eb ∙ drop-drop (length t) (length t) w
 
-    l₃ : length (third_of t w) ≡ length t
-    l₃ = let s = 𝓟.size in simp length-drop (omega arith)
+    l₁ : length u ≡ length t
+    l₁ = let s = 𝓟.size in ap length eu ∙ simp length-take (omega arith)
 
-    abbrev new : List ℕ
-    new = peeled 𝓕 (first_of t w) t (third_of t w)
+    l₂ : length v ≡ length t
+    l₂ = let s = 𝓟.size in ap length v_is ∙ simp (length-take, length-drop) (omega arith)
 
-    length_new : length (peeled 𝓕 (first_of t w) t (third_of t w)) ≡ length t
-    length_new = length_peeled (length t) (first_of t w) t (third_of t w) l₁ refl l₃
+    l₃ : length r ≡ length t
+    l₃ = let s = 𝓟.size in ap length r_is ∙ simp length-drop (omega arith)
 
-    same : length (new ++ drop (length t) w) ≡ length w
-    same = length-append new (drop (length t) w) ∙ omega (arith, length_new, length-drop (length t) w, 𝓟.size)
+    pub parts_none : PartsTo t t' u v r 0 true u
+    parts_none = (all₂_none eqb (raised 𝓕 (peeled 𝓕 u t r) t' r) v, filled_none _ u)
 
-    pub front_none : FrontTo t t' w 0 true w
-    front_none = (all₂_none eqb (raised 𝓕 new t' (third_of t w)) (second_of t w), filled_none _ w)
+    module _ (i : ℕ) (ok : Bool) (out : List ℕ) (h : i < length t) (p : PartsTo t t' u v r i ok out) where
+      as_lent : get_or out i 0 ≡ get_or u i 0
+      as_lent = filled_old p.1 i 0 (omega arith)
 
-    pub front_length : (i : ℕ) (ok : Bool) (out : List ℕ) → FrontTo t t' w i ok out → length out ≡ length w
-    front_length i ok out p = filled_length p.1
-
-    module _ (i : ℕ) (ok : Bool) (out : List ℕ) (h : i < length t) (p : FrontTo t t' w i ok out) where
-      -- what is read is as it was
-      at₁ : get_or out i 0 ≡ get_or w i 0
-      at₁ = filled_old p.1 i 0 (omega arith)
-
-      at₂ : get_or out (length t + i) 0 ≡ get_or w (length t + i) 0
-      at₂ = filled_old p.1 (length t + i) 0 (omega arith)
-
-      at₃ : get_or out (length t + i + length t) 0 ≡ get_or w (length t + i + length t) 0
-      at₃ = filled_old p.1 (length t + i + length t) 0 (omega arith)
-
-      pub front_low : (get_or out i 0 < P) × (get_or out (length t + i + length t) 0 < P)
-      front_low = let s = 𝓟.size in (rw at₁ (𝓟.words.low i (omega arith)), rw at₃ (𝓟.words.low (length t + i + length t) (omega arith)))
-
-      third_is : get_or out (length t + i + length t) 0 ≡ get_or (third_of t w) i 0
-      third_is =
+      pub parts_low : (get_or out i 0 < P) × (get_or r i 0 < P)
+      parts_low =
           let n = length t in
-          let k : n + i + n ≡ n + n + i = omega arith in
-          at₃ ∙ ap (λ j. get_or w j 0) k ∙ sym (get_or-drop (n + n) w i 0)
-
-      pub front_turn : (l : ℕ) (flag : Bool) → l ≡ word (el (get_or out i 0) ⊟ el (get_or t i 0) ⊠ el (get_or out (length t + i + length t) 0))
-          → flag ≡ eqb (word (el l ⊞ el (get_or t' i 0) ⊠ el (get_or out (length t + i + length t) 0))) (get_or out (length t + i) 0)
-          → FrontTo t t' w (i + 1) (ok && flag) (set out i l)
-      front_turn l flag q e =
-          let n = length t in
-          let u = first_of t w in
-          let v = second_of t w in
-          let r = third_of t w in
-          let a = at₁ ∙ sym (get_or-take n w i 0 h) in
-          let y = at₂ ∙ sym (get_or-take n (drop n w) i 0 h ∙ get_or-drop n w i 0) in (
-            rw e (flag_turn n t t' u v r refl 𝓟.second l₁ l₂ l₃ i _ _ (get_or out (n + i) 0) l _ h a third_is y q refl p.0),
-            filled_turn 0 (omega (arith, 𝓟.size)) same p.1
-                (left_is n t t' u v r refl 𝓟.second l₁ l₂ l₃ i _ _ (get_or out (n + i) 0) l _ h a third_is y q refl
-                ∙ sym (get_or-append new (drop n w) 0 i (omega (arith, length_new)))),
+          let s = 𝓟.size in (
+            rw (as_lent ∙ ap (λ l. get_or l i 0) eu ∙ get_or-take n w i 0 h) (𝓟.words.low i (omega arith)),
+            rw (ap (λ l. get_or l i 0) r_is ∙ get_or-drop (n + n) w i 0) (𝓟.words.low (n + n + i) (omega arith)),
           )
 
-    pub front_end : (i : ℕ) (ok : Bool) (out : List ℕ) → i ≤ length t → length t ≤ i → FrontTo t t' w i ok out
-        → Peeled 𝓕 t t' (first_of t w) (second_of t w) (third_of t w) ok (take (length t) out)
-    front_end i ok out k h p =
+      pub parts_turn : (l : ℕ) (same : Bool) → l ≡ word (el (get_or out i 0) ⊟ el (get_or t i 0) ⊠ el (get_or r i 0)) → same ≡ eqb (word (el l ⊞ el (get_or t' i 0) ⊠ el (get_or r i 0))) (get_or v i 0)
+          → PartsTo t t' u v r (i + 1) (ok && same) (set out i l)
+      parts_turn l same q e =
+          let n = length t in (
+            rw e (flag_turn n t t' u v r refl 𝓟.second l₁ l₂ l₃ i (get_or out i 0) (get_or r i 0) (get_or v i 0) l _ h as_lent refl refl q refl p.0),
+            filled_turn 0 (omega (arith, l₁)) (length_peeled n u t r l₁ refl l₃ ∙ sym l₁) p.1
+                (left_is n t t' u v r refl 𝓟.second l₁ l₂ l₃ i (get_or out i 0) (get_or r i 0) (get_or v i 0) l _ h as_lent refl refl q refl),
+          )
+
+    pub parts_end : (i : ℕ) (ok : Bool) (out : List ℕ) → length t ≤ i → PartsTo t t' u v r i ok out
+        → Peeled 𝓕 t t' (first_of t w) (second_of t w) (third_of t w) ok (take (length t) (out ++ rest))
+    parts_end i ok out h p =
         let n = length t in
-        let lo : length (take n out) ≡ n = length-take n out ∙ omega (arith, filled_length p.1, 𝓟.size) in
-        record {
-          answer = flag_end n t t' (first_of t w) (second_of t w) (third_of t w) refl 𝓟.second l₁ l₂ l₃ i h p.0;
-          left =
-              ext_get_or 0 (take n out) new (lo ∙ sym length_new)
-              (λ j m. get_or-take n out j 0 (omega arith) ∙ filled_new p.1 j 0 (omega arith) same ∙ get_or-append new (drop n w) 0 j (omega (arith, length_new)));
-        }
+        rw (sym eu, sym v_is, sym r_is)
+        (record {
+          answer = flag_end n t t' u v r refl 𝓟.second l₁ l₂ l₃ i h p.0;
+          left = take_at out rest n (filled_length p.1 ∙ l₁) ∙ filled_end (omega (arith, l₁)) (length_peeled n u t r l₁ refl l₃ ∙ sym l₁) p.1;
+        })

@@ -1,10 +1,9 @@
 -- What the two parts of a step are lent, and what they leave. Definitions only. Assumes nothing.
-use Rattle.std.specs.Prelude.{◌≡◌, Bool, List, ℕ, suc, ◌+◌, ◌*◌, ◌^◌, ◌≤◌, ◌<◌, length, take, drop}
+use Rattle.std.specs.Prelude.{◌≡◌, Bool, List, ℕ, suc, ◌+◌, ◌^◌, ◌≤◌, ◌<◌, length, take, drop}
 use Rattle.algebra.specs.Vector.{vectors}
 use Rattle.algebra.specs.Words.{PrimeField}
 use Rattle.algebra.specs.WordLists.{Low, elements, to_words}
 use Rattle.algebra.specs.Tests.{all_same}
-use Rattle.foldable.specs.Lift.{spread}
 use Rattle.foldable.specs.Peel.{peel}
 use Rattle.job.specs.Limits.{max_depth, block_size}
 use Rattle.parameters.specs.Lent.{Coding, codeword}
@@ -15,17 +14,6 @@ module _ (𝓕 : PrimeField) where
   open 𝓕 use {modulus as P, field as F}
   open F use {ring as K}
   open vectors K use {◌⊕◌, ◌⊙◌}
-
-  -- a message of two halves of n words each in front of w, and room from b on for the base blocks of the right half
-  pub record RightLent (n b : ℕ) (g w : List ℕ) : Type 0 where
-    pub message : Low P (take (n + n) w)
-    pub row : Low P g
-    pub behind : n + n ≤ b
-    pub within : b + n * length g ≤ length w
-
-  pub record RightSpread (n b : ℕ) (g w out : List ℕ) : Type 0 where
-    pub kept : take b out ≡ take b w
-    pub base : take (n * length g) (drop b out) ≡ to_words 𝓕 (spread F (elements 𝓕 g) (elements 𝓕 (take n (drop n w))))
 
   -- a message of two halves of depth i in front of w, and room from b on for the codeword of the right half
   pub record CodeLent (i b : ℕ) (g t t' w : List ℕ) : Type 0 where

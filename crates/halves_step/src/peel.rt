@@ -14,32 +14,29 @@ pub fn peel_lent(t: &[u32], t2: &[u32], block: &[u32], out: &mut [u32], field: F
 {
     let n = t.len();
     let mut ok = true;
-    let mut i = 0;
-    while i < n {
+    for i in 0..n {
         let k = n + i;
         let p = place::peel_at(block[i], block[k], t[i], t2[i], out[i], field);
-        ok = ok & p.same;
+        ok &= p.same;
         out[i] = p.left;
-        i += 1;
     }
     ok
 }
 
-// Of a block in front of w, with r behind it: u becomes u - t r. Whether that gives v.
+// Of a block in front of w, with r behind it: u becomes u - t r. Whether that gives v. A loop of its own, since it writes the block that the
+// one above only reads.
 pub fn peel_front(t: &[u32], t2: &[u32], w: &mut [u32], field: Field) -> bool
     requires { FrontPeel (chosen field) t.now t2.now w.old }
     ensures { Peeled (chosen field) t.now t2.now (take (length t.now) w.old) (take (length t.now) (drop (length t.now) w.old)) (drop (length t.now + length t.now) w.old) result (take (length t.now) w.new) }
 {
     let n = t.len();
+    let (u, behind) = w.split_at_mut(n);
+    let (v, r) = behind.split_at(n);
     let mut ok = true;
-    let mut i = 0;
-    while i < n {
-        let k = n + i;
-        let q = k + n;
-        let p = place::peel_at(w[i], w[k], t[i], t2[i], w[q], field);
-        ok = ok & p.same;
-        w[i] = p.left;
-        i += 1;
+    for i in 0..n {
+        let p = place::peel_at(u[i], v[i], t[i], t2[i], r[i], field);
+        ok &= p.same;
+        u[i] = p.left;
     }
     ok
 }

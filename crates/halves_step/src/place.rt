@@ -8,7 +8,7 @@ use residue::Field;
 use words::entry;
 
 // The word of the left half's codeword, and whether the block's second word follows from it.
-#[derive(Clone, Copy)]
+#[derive(Clone, Copy, Debug, PartialEq, Eq)]
 pub struct Peel {
     pub left: u32,
     pub same: bool,
@@ -21,7 +21,7 @@ fn peel_in(u: u32, v: u32, t: u32, t2: u32, r: u32, field: Field) -> Peel
     let left = entry::minus_product(u, t, r, field);
     let second = entry::plus_product(left, t2, r, field);
     Peel {
-        left: left,
+        left,
         same: second == v,
     }
 }

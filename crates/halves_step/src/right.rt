@@ -1,25 +1,26 @@
 // The codeword of the right half of a message that stands in front of a slice, written behind the message in the same slice.
+// It is for one base row: base_halves_step::right goes base message by base message, which takes longer where each is one word.
+ghost use Rattle.std.specs.Prelude.{◌≡◌};
 ghost use Rattle.residue.specs.Chosen.{chosen};
-ghost use Rattle.halves_step.specs.Steps.{RightLent, RightSpread, CodeLent, RightWritten};
+ghost use Rattle.code.specs.Steps.{SpreadInput};
+ghost use Rattle.code.specs.SpreadLaws.{spreaded};
+ghost use Rattle.halves_step.specs.Steps.{CodeLent, RightWritten};
 
 use code::{lift, spread};
 use residue::{Field, Residue};
 
-// The base blocks of the words from n on, from b on.
-fn spread_right(n: usize, b: usize, g: &[u32], work: &mut [u32], field: Field)
-    requires { RightLent (chosen field) n b g.now work.old }
-    ensures { RightSpread (chosen field) n b g.now work.old work.new }
+// A base block for each word of the message.
+fn spread_words(g: &[u32], message: &[u32], out: &mut [u32], field: Field)
+    requires { SpreadInput (chosen field) message.now g.now out.old }
+    ensures { out.new ≡ spreaded (chosen field) message.now g.now }
 {
     let c = g.len();
-    let mut i = 0;
-    let mut x = b;
-    while i < n {
-        let k = n + i;
+    let mut x = 0;
+    for i in 0..message.len() {
         let e = x + c;
-        let a = Residue::new(work[k], field);
-        spread::scale(a, g, &mut work[x..e], field);
+        let a = Residue::new(message[i], field);
+        spread::scale(a, g, &mut out[x..e], field);
         x = e;
-        i += 1;
     }
 }
 
@@ -37,7 +38,8 @@ pub fn write_right(
     ensures { RightWritten (chosen field) level b g.now t.now t2.now work.old work.new }
 {
     let n = job::message_len(level);
-    spread_right(n, b, g, work, field);
-    let e = b + g.len() * n;
-    lift::lift(level, g, t, t2, &mut work[b..e], field);
+    let (message, behind) = work.split_at_mut(b);
+    let out = &mut behind[..g.len() * n];
+    spread_words(g, &message[n..n + n], out, field);
+    lift::lift(level, g, t, t2, out, field);
 }

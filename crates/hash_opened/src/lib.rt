@@ -8,7 +8,7 @@ ghost use Rattle.hash_root.specs.Levels.{leaf_of, level_root};
 ghost use Rattle.hash_parts.specs.Queries.{leaves, siblings_put, Room};
 ghost use Rattle.hash_opened.specs.Carried.{paths_put, written};
 
-use hash_parts::{leaf_words, siblings};
+use hash_parts::{Slots, leaf_words, siblings};
 use sha256::Digest;
 
 // Two siblings of height t are written on the paths through their parent, node j, and the parent is hashed.
@@ -18,44 +18,32 @@ fn join(
     n: usize,
     t: u32,
     j: usize,
-    queries: &[u32],
-    first: usize,
-    stride: usize,
+    slots: &Slots<'_>,
     out: &mut [u8],
 ) -> Digest
-    requires { (0 < n) × (t < 63) × Room (8 + 32 * (t + 1)) first stride queries.now out.old }
-    ensures { (result.bytes ≡ node_hash left.bytes right.bytes) × (out.new ≡ siblings_put left.bytes right.bytes n t j queries.now first stride out.old) }
+    requires { (0 < n) × (t < 63) × Room (8 + 32 * (t + 1)) slots.now.first slots.now.stride slots.now.queries.now out.old }
+    ensures { (result.bytes ≡ node_hash left.bytes right.bytes) × (out.new ≡ siblings_put left.bytes right.bytes n t j slots.now.queries.now slots.now.first slots.now.stride out.old) }
 {
-    let a = left.bytes;
-    let b = right.bytes;
-    siblings::write_siblings(&a, &b, n, t, j, queries, first, stride, out);
-    hash_tree::node(&a, &b)
+    siblings::write_siblings(&left.bytes, &right.bytes, n, t, j, slots, out);
+    hash_tree::node(&left.bytes, &right.bytes)
 }
 
 // Node j of height t, with the paths through it written up to it. Where no path goes through it, it is only hashed.
-fn visit(
-    block: &[u32],
-    t: u32,
-    j: usize,
-    queries: &[u32],
-    first: usize,
-    stride: usize,
-    out: &mut [u8],
-) -> Digest
-    requires { (2 ^ t * (j + 1) ≤ leaves block.now) × Room (8 + 32 * t) first stride queries.now out.old }
-    ensures { (result.bytes ≡ node node_hash (leaf_of block.now) t j) × (out.new ≡ paths_put block.now t j queries.now first stride out.old) }
+fn visit(block: &[u32], t: u32, j: usize, slots: &Slots<'_>, out: &mut [u8]) -> Digest
+    requires { (2 ^ t * (j + 1) ≤ leaves block.now) × Room (8 + 32 * t) slots.now.first slots.now.stride slots.now.queries.now out.old }
+    ensures { (result.bytes ≡ node node_hash (leaf_of block.now) t j) × (out.new ≡ paths_put block.now t j slots.now.queries.now slots.now.first slots.now.stride out.old) }
 {
     let n = block.len() / 2;
     if t == 0 {
         return hash_root::node_of(block, t, j);
     }
-    if hash_parts::untouched(queries, n, t, j) {
+    if hash_parts::untouched(slots.queries, n, t, j) {
         return hash_root::node_of(block, t, j);
     }
     let low = t - 1;
-    let left = visit(block, low, 2 * j, queries, first, stride, out);
-    let right = visit(block, low, 2 * j + 1, queries, first, stride, out);
-    join(left, right, n, low, j, queries, first, stride, out)
+    let left = visit(block, low, 2 * j, slots, out);
+    let right = visit(block, low, 2 * j + 1, slots, out);
+    join(left, right, n, low, j, slots, out)
 }
 
 // What each query carries, stride bytes apart, and the root.
@@ -70,6 +58,11 @@ pub fn write_carried(
     requires { (length block.now ≡ 2 ^ height + 2 ^ height) × Room (8 + 32 * height) first stride queries.now out.old }
     ensures { (result.bytes ≡ level_root height block.now) × (out.new ≡ written height block.now queries.now first stride out.old) }
 {
-    leaf_words::write_words(block, queries, first, stride, out);
-    visit(block, height, 0, queries, first, stride, out)
+    let slots = Slots {
+        queries,
+        first,
+        stride,
+    };
+    leaf_words::write_words(block, &slots, out);
+    visit(block, height, 0, &slots, out)
 }

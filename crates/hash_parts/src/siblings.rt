@@ -4,7 +4,7 @@ ghost use Rattle.algebra.specs.Bits.{either};
 ghost use Rattle.algebra.specs.Lists.{put};
 ghost use Rattle.hash_parts.specs.Queries.{siblings_put, Room};
 
-use sha256::bytes;
+use crate::Slots;
 
 // Of two siblings of height t the one that is not above leaf x, where their parent, node j, is above it.
 fn put_other(left: &[u8], right: &[u8], t: u32, j: usize, x: usize, out: &mut [u8], at: usize)
@@ -15,10 +15,10 @@ fn put_other(left: &[u8], right: &[u8], t: u32, j: usize, x: usize, out: &mut [u
         return;
     }
     if (x >> t) % 2 == 0 {
-        bytes::copy(right, out, at);
-        return;
+        out[at..at + 32].copy_from_slice(right);
+    } else {
+        out[at..at + 32].copy_from_slice(left);
     }
-    bytes::copy(left, out, at);
 }
 
 // Two siblings of height t on the paths that go through their parent, node j.
@@ -28,19 +28,15 @@ pub fn write_siblings(
     n: usize,
     t: u32,
     j: usize,
-    queries: &[u32],
-    first: usize,
-    stride: usize,
+    slots: &Slots<'_>,
     out: &mut [u8],
 )
-    requires { (length left.now ≡ 32) × (length right.now ≡ 32) × (0 < n) × (t < 63) × Room (8 + 32 * (t + 1)) first stride queries.now out.old }
-    ensures { out.new ≡ siblings_put left.now right.now n t j queries.now first stride out.old }
+    requires { (length left.now ≡ 32) × (length right.now ≡ 32) × (0 < n) × (t < 63) × Room (8 + 32 * (t + 1)) slots.now.first slots.now.stride slots.now.queries.now out.old }
+    ensures { out.new ≡ siblings_put left.now right.now n t j slots.now.queries.now slots.now.first slots.now.stride out.old }
 {
-    let mut at = first + (8 + 32 * t as usize);
-    let mut k = 0;
-    while k < queries.len() {
-        put_other(left, right, t, j, queries[k] as usize % n, out, at);
-        at += stride;
-        k += 1;
+    let mut at = slots.first + (8 + 32 * t as usize);
+    for u in slots.queries {
+        put_other(left, right, t, j, *u as usize % n, out, at);
+        at += slots.stride;
     }
 }

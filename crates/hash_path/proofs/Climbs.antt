@@ -1,10 +1,10 @@
 -- A node hashed with its sibling, and a climb one piece further. Assumes nothing.
 use mathlib.Core.Path.{◌≡◌, sym, ap, ap₂, ◌∙◌}
-use mathlib.Core.List.{List, ◌∷◌}
-use Prim.Native.Nat.{ℕ, suc, ◌+◌, ◌*◌, ◌-◌, ◌/◌, ◌%◌, ◌<◌, ◌≤◌}
+use mathlib.Core.List.{List, ◌∷◌, ◌++◌}
+use Prim.Native.Nat.{ℕ, suc, ◌+◌, ◌*◌, ◌/◌, ◌%◌, ◌<◌, ◌≤◌}
 use native.Mathlib.Omega.{arith}
-use lib.ListN.{length, take, drop, length-drop}
-use lib.Seq.{drop-drop}
+use lib.ListN.{length, take, drop, length-append, length-drop}
+use lib.Seq.{drop-drop, take_at, drop_at}
 use Rattle.algebra.specs.Bits.{either}
 use Rattle.algebra.specs.Lists.{row, row_ext}
 use Rattle.merkle.specs.Tree.{parent, climb}
@@ -35,12 +35,11 @@ pub climbed_none : (j : ℕ) (x bs : List ℕ) → length bs < 32 → climbed j 
 unfolding climbed climb row
 climbed_none j x bs h = let none : length bs / 32 ≡ 0 = omega arith in ap (λ k. climb node_hash j x (pieces k bs)) none
 
--- the piece from at to e, as a program lends it
-pub climbed_turn : (j at e : ℕ) (x bs : List ℕ) {k : ℕ} {y r : List ℕ} → k ≡ j / 2 → e ≡ at + 32 → e ≤ length bs → y ≡ parent node_hash j x (take (e - at) (drop at bs))
-    → climbed j x (drop at bs) ≡ r → climbed k y (drop e bs) ≡ r
-climbed_turn j at e x bs {y = y} half n h p q =
-    let all : e - at ≡ 32 = omega arith in
-    ap₂ (λ i l. climbed i y l) half (ap (λ i. drop i bs) n ∙ sym (drop-drop 32 at bs))
-    ∙ ap (λ z. climbed (j / 2) z (drop 32 (drop at bs))) (p ∙ ap (λ i. parent node_hash j x (take i (drop at bs))) all)
-    ∙ sym (climbed_more j x (drop at bs) (simp length-drop (omega arith)))
+-- a climb by a piece that stands first
+pub climbed_turn : (j : ℕ) (x s r : List ℕ) {bs y z : List ℕ} → bs ≡ s ++ r → length s ≡ 32 → y ≡ parent node_hash j x s → climbed j x bs ≡ z → climbed (j / 2) y r ≡ z
+climbed_turn j x s r e n p q =
+    let long : 32 ≤ length (s ++ r) = simp length-append (omega arith) in
+    ap₂ (climbed (j / 2)) (p ∙ ap (parent node_hash j x) (sym (take_at s r 32 n))) (sym (drop_at s r 32 n))
+    ∙ sym (climbed_more j x (s ++ r) long)
+    ∙ ap (climbed j x) (sym e)
     ∙ q

@@ -1,5 +1,5 @@
 -- What several proofs cite.
 --     Climbs   a climb, one piece after the other
---     Words    the word of the four bytes that a program reads
+--     Pairs    std's test of equal lists
 pub mod Climbs
-pub mod Words
+pub mod Pairs

@@ -16,11 +16,11 @@ fn parent(place: u32, x: Digest, sibling: &[u8]) -> Digest
     requires { length sibling.now ≡ 32 }
     ensures { result.bytes ≡ parent_of node_hash place x.bytes sibling.now }
 {
-    let b = x.bytes;
     if place % 2 == 0 {
-        return hash_tree::node(&b, sibling);
+        hash_tree::node(&x.bytes, sibling)
+    } else {
+        hash_tree::node(sibling, &x.bytes)
     }
-    hash_tree::node(sibling, &b)
 }
 
 // What a path makes of a node in a place. Bytes behind the last whole sibling do not count.
@@ -29,12 +29,9 @@ pub fn climb(place: u32, x: Digest, path: &[u8]) -> Digest
 {
     let mut j = place;
     let mut d = x;
-    let mut at = 0;
-    while path.len() - at >= 32 {
-        let end = at + 32;
-        d = parent(j, d, &path[at..end]);
-        j = j / 2;
-        at = end;
+    for sibling in path.chunks_exact(32) {
+        d = parent(j, d, sibling);
+        j /= 2;
     }
     d
 }
@@ -43,7 +40,5 @@ pub fn climb(place: u32, x: Digest, path: &[u8]) -> Digest
 pub fn leads(place: u32, leaf: Digest, path: &[u8], root: &[u8]) -> bool
     ensures { result ≡ same_bytes (climbed place leaf.bytes path.now) root.now }
 {
-    let d = climb(place, leaf, path);
-    let b = d.bytes;
-    bytes::same(&b, root)
+    bytes::same(&climb(place, leaf, path).bytes, root)
 }

@@ -9,6 +9,7 @@ ghost use Rattle.hash_root.specs.Levels.{leaf_of, level_root};
 use sha256::Digest;
 
 // Leaf j.
+#[tactic(auto, unfolding(crate::specs::Levels::leaf_of))]
 fn leaf_of(block: &[u32], j: usize) -> Digest
     requires { j < length block.now / 2 }
     ensures { result.bytes ≡ leaf_of block.now j }
@@ -28,9 +29,7 @@ pub fn node_of(block: &[u32], height: u32, j: usize) -> Digest
     let low = height - 1;
     let left = node_of(block, low, 2 * j);
     let right = node_of(block, low, 2 * j + 1);
-    let a = left.bytes;
-    let b = right.bytes;
-    hash_tree::node(&a, &b)
+    hash_tree::node(&left.bytes, &right.bytes)
 }
 
 // The root over all words of a block.

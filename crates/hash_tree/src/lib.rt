@@ -4,23 +4,17 @@
 ghost use Rattle.std.specs.Prelude.{◌≡◌, length};
 ghost use Rattle.hash_tree.specs.Tree.{leaf_hash, node_hash};
 
-use sha256::{Digest, bytes};
+use sha256::Digest;
 
 // The hash of two words.
+#[tactic(auto, unfolding(crate::specs::Tree::leaf_hash))]
 pub fn leaf(x: u32, y: u32) -> Digest
     ensures { result.bytes ≡ leaf_hash x y }
 {
-    let m = [
-        0u8,
-        (x % 256) as u8,
-        (x / 256 % 256) as u8,
-        (x / 65536 % 256) as u8,
-        (x / 16777216 % 256) as u8,
-        (y % 256) as u8,
-        (y / 256 % 256) as u8,
-        (y / 65536 % 256) as u8,
-        (y / 16777216 % 256) as u8,
-    ];
+    // The copies leave the first byte, 0.
+    let mut m = [0u8; 9];
+    m[1..5].copy_from_slice(&x.to_le_bytes());
+    m[5..].copy_from_slice(&y.to_le_bytes());
     sha256::sha256(&m)
 }
 
@@ -31,7 +25,7 @@ pub fn node(left: &[u8], right: &[u8]) -> Digest
 {
     // The copies leave the first byte, 1.
     let mut m = [1u8; 65];
-    bytes::copy(left, &mut m, 1);
-    bytes::copy(right, &mut m, 33);
+    m[1..33].copy_from_slice(left);
+    m[33..].copy_from_slice(right);
     sha256::sha256(&m)
 }

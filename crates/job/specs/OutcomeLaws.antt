@@ -1,12 +1,10 @@
 -- Laws of outcomes: which refusal decides, what a buffer holds then, and that an outcome says which answer was given. Assumes nothing.
-use Rattle.std.specs.Prelude.{◌≡◌, refl, Bool, true, false, ◌&&◌, List, ℕ, zero, suc}
+use Rattle.std.specs.Prelude.{◌≡◌, refl, Bool, true, false, ◌&&◌, List, ℕ, zero, suc, Result, Ok, Err}
 use Rattle.std.proofs.Common.{sym, ap, ap₂, subst, ◌∙◌, arith}
 use Rattle.job.specs.declared.Input.{Input}
 use Rattle.job.specs.declared.Input.TheVariants.{G, T, T2, Block, Z, Y, R, Opening}
 use Rattle.job.specs.declared.Refusal.{Refusal}
 use Rattle.job.specs.declared.Refusal.TheVariants.{Depth, Rate, Length, Word, BaseRow, Diagonals, Queries, NoCodeword, Clearance, Repeated, NoPowerOfTwo, BaseWords}
-use Rattle.job.specs.declared.Answer.{Answer}
-use Rattle.job.specs.declared.Answer.TheVariants.{Done, Refused}
 use Rattle.job.specs.Outcome.{Numbers, unplaced, Outcome, refused, done, input_number, due, outcome, demand, require, unless, ◌⨾◌, kept}
 
 -- what the first outcome decides of two
@@ -175,24 +173,24 @@ of_number (suc (suc (suc (suc (suc (suc (suc (suc (suc (suc (suc zero)))))))))))
 of_number (suc (suc (suc (suc (suc (suc (suc (suc (suc (suc (suc (suc zero)))))))))))) k i = NoPowerOfTwo
 of_number (suc (suc (suc (suc (suc (suc (suc (suc (suc (suc (suc (suc (suc n))))))))))))) k i = BaseWords
 
-abbrev of_outcome : Outcome (Unit {0}) → Answer
-of_outcome (refused n) = Refused (of_number n.0 n.1 n.2)
-of_outcome (done a) = Done
+abbrev of_outcome : Outcome (Unit {0}) → Result (Unit {0}) Refusal
+of_outcome (refused n) = Err (of_number n.0 n.1 n.2)
+of_outcome (done a) = (Ok tt)
 
-of_outcome_lem : (r : Answer) → of_outcome (outcome r) ≡ r
-of_outcome_lem Done = refl
-of_outcome_lem (Refused Depth) = refl
-of_outcome_lem (Refused Rate) = refl
-of_outcome_lem (Refused Length) = refl
-of_outcome_lem (Refused (Word i k)) = ap (λ j. Refused (Word j k)) (of_input_lem i)
-of_outcome_lem (Refused (BaseRow k)) = refl
-of_outcome_lem (Refused (Diagonals k)) = refl
-of_outcome_lem (Refused Queries) = refl
-of_outcome_lem (Refused NoCodeword) = refl
-of_outcome_lem (Refused Clearance) = refl
-of_outcome_lem (Refused Repeated) = refl
-of_outcome_lem (Refused NoPowerOfTwo) = refl
-of_outcome_lem (Refused BaseWords) = refl
+of_outcome_lem : (r : Result (Unit {0}) Refusal) → of_outcome (outcome r) ≡ r
+of_outcome_lem (Ok tt) = refl
+of_outcome_lem (Err Depth) = refl
+of_outcome_lem (Err Rate) = refl
+of_outcome_lem (Err Length) = refl
+of_outcome_lem (Err (Word i k)) = ap (λ j. Err (Word j k)) (of_input_lem i)
+of_outcome_lem (Err (BaseRow k)) = refl
+of_outcome_lem (Err (Diagonals k)) = refl
+of_outcome_lem (Err Queries) = refl
+of_outcome_lem (Err NoCodeword) = refl
+of_outcome_lem (Err Clearance) = refl
+of_outcome_lem (Err Repeated) = refl
+of_outcome_lem (Err NoPowerOfTwo) = refl
+of_outcome_lem (Err BaseWords) = refl
 
-pub same_answer : (r r' : Answer) → outcome r ≡ outcome r' → r ≡ r'
+pub same_answer : (r r' : Result (Unit {0}) Refusal) → outcome r ≡ outcome r' → r ≡ r'
 same_answer r r' e = sym (of_outcome_lem r) ∙ ap of_outcome e ∙ of_outcome_lem r'

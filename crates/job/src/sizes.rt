@@ -5,23 +5,23 @@ ghost use Rattle.job.specs.Sizes.{k0_ok, depth_ok, size_ok, in_limits, base_size
 
 use crate::Parameters;
 
+#[tactic(auto, unfolding(crate::specs::Sizes::k0_ok))]
 pub fn k0_ok(p: Parameters) -> bool
     ensures { result ≡ k0_ok p.k0 }
 {
-    (p.k0 == 1) | (p.k0 == 2) | (p.k0 == 4)
+    matches!(p.k0, 1 | 2 | 4)
 }
 
 // The variables inside the base message; none where k0 is not legal.
+#[tactic(auto, unfolding(crate::specs::Sizes::low))]
 pub fn low_len(p: Parameters) -> usize
     ensures { result ≡ low p.k0 }
 {
-    if p.k0 == 4 {
-        return 2;
+    match p.k0 {
+        4 => 2,
+        2 => 1,
+        _ => 0,
     }
-    if p.k0 == 2 {
-        return 1;
-    }
-    0
 }
 
 // The words of a point: a variable for each level, and the low ones.
@@ -42,22 +42,13 @@ pub fn depth_ok(p: Parameters) -> bool
 pub fn size_ok(p: Parameters) -> bool
     ensures { result ≡ size_ok p.depth p.k0 }
 {
-    if !depth_ok(p) {
-        return false;
-    }
-    k0_ok(p)
+    depth_ok(p) && k0_ok(p)
 }
 
 pub fn in_limits(p: Parameters) -> bool
     ensures { result ≡ in_limits p.depth p.rate p.k0 }
 {
-    if !depth_ok(p) {
-        return false;
-    }
-    if !crate::rate_ok(p.rate) {
-        return false;
-    }
-    k0_ok(p)
+    depth_ok(p) && crate::rate_ok(p.rate) && k0_ok(p)
 }
 
 // k0 2^depth, the words of a message.

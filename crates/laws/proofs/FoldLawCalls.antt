@@ -6,7 +6,7 @@ use Rattle.algebra.specs.Lists.{length_zip}
 use Rattle.algebra.specs.Words.{PrimeField}
 use Rattle.algebra.specs.WordLists.{low_words, elements, length_elements, length_words_lem}
 use Rattle.foldable.specs.Encode.{double}
-use Rattle.job.specs.declared.Answer.{Answer}
+use Rattle.job.specs.Outcome.{Answer}
 use Rattle.job.specs.Outcome.{done, outcome}
 use Rattle.job.specs.Sizes.{base_size, message_size}
 use Rattle.base_parameters.specs.Parameters.{LegalRows}

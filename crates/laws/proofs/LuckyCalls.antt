@@ -16,7 +16,7 @@ use Rattle.foldable.specs.Prefix.{codeword_prefix}
 use Rattle.counting.specs.Challenges.{challenge_words, count}
 use Rattle.counting.proofs.Every.{every_challenge_words}
 use Rattle.counting.proofs.Tried.{tried}
-use Rattle.job.specs.declared.Answer.{Answer}
+use Rattle.job.specs.Outcome.{Answer}
 use Rattle.job.specs.Outcome.{refused, done, outcome}
 use Rattle.job.specs.Sizes.{base_size}
 use Rattle.base_parameters.specs.Parameters.{LegalRows}

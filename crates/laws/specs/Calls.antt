@@ -3,7 +3,7 @@ use Rattle.std.specs.Prelude.{◌≡◌, ◌↔◌, ◌⊎◌, List, ℕ, suc, l
 use Rattle.algebra.specs.Vector.{vectors}
 use Rattle.algebra.specs.Words.{PrimeField}
 use Rattle.algebra.specs.WordLists.{Low, elements, to_words}
-use Rattle.job.specs.declared.Answer.{Answer}
+use Rattle.job.specs.Outcome.{Answer}
 use Rattle.job.specs.Outcome.{refused, done, outcome}
 use Rattle.job.specs.Limits.{block_size, diagonals_size}
 use Rattle.job.specs.Sizes.{base_size, message_size}

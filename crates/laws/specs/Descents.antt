@@ -5,8 +5,8 @@ use Rattle.algebra.specs.Words.{PrimeField}
 use Rattle.algebra.specs.WordLists.{elements}
 use Rattle.foldable.specs.Code.{Codeword}
 use Rattle.counting.specs.Challenges.{challenge_words, count}
-use Rattle.job.specs.declared.Answer.{Answer}
-use Rattle.job.specs.declared.Answer.TheVariants.{Done, Refused}
+use Rattle.job.specs.Outcome.{Answer}
+use Rattle.std.specs.Prelude.{Ok, Err}
 use Rattle.job.specs.Outcome.{done, outcome}
 use Rattle.base_spread.specs.LentRows.{lent_rows}
 use Rattle.laws.specs.Calls.{folded_level, ExactFold, ExactDecode}
@@ -18,8 +18,8 @@ AllDone (a ∷ rest) = (outcome a ≡ done tt) × AllDone rest
 
 -- whether a call is done
 pub done? : (a : Answer) → Dec (outcome a ≡ done tt)
-done? Done = yes refl
-done? (Refused r) = no (λ e. let z : ◌≡◌ {A = ℕ} 0 1 = cc in omega arith)
+done? (Ok tt) = yes refl
+done? (Err r) = no (λ e. let z : ◌≡◌ {A = ℕ} 0 1 = cc in omega arith)
 
 module _ (𝓕 : PrimeField) where
   open 𝓕 use {modulus as P, field as F}

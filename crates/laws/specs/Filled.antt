@@ -9,7 +9,7 @@ use Rattle.algebra.specs.Words.{𝔽₂}
 use Rattle.algebra.specs.WordLists.{elements, to_words}
 use Rattle.roots.specs.RootCode.{powers, value, reversed}
 use Rattle.roots.specs.SecondField.{root₂}
-use Rattle.job.specs.declared.Answer.{Answer}
+use Rattle.job.specs.Outcome.{Answer}
 use Rattle.job.specs.Outcome.{done, outcome}
 use Rattle.job.specs.Limits.{block_size}
 use Rattle.job.specs.Sizes.{base_size}

@@ -9,7 +9,7 @@ use Rattle.foldable.specs.Code.{Codeword}
 use Rattle.foldable.specs.Encode.{length_encode}
 use Rattle.foldable.specs.Fold.{length_fold}
 use Rattle.basefold.specs.Descent.{legal_at}
-use Rattle.job.specs.declared.Answer.{Answer}
+use Rattle.job.specs.Outcome.{Answer}
 use Rattle.job.specs.Outcome.{done, outcome, kept}
 use Rattle.job.specs.Limits.{block_size}
 use Rattle.job.specs.Sizes.{base_size}

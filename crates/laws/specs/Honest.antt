@@ -1,7 +1,7 @@
 -- Encoding, writing and verifying, one after the other: the verdict is 0 wherever no refusal is due.
 --     commit_accepted
 -- Assumes nothing.
-use Rattle.std.specs.Prelude.{◌≡◌, refl, true, ◌&&◌, List, [], ◌∷◌, ℕ, length, replicate}
+use Rattle.std.specs.Prelude.{◌≡◌, refl, true, ◌&&◌, List, [], ◌∷◌, ℕ, length, replicate, Result, Ok, Err}
 use Rattle.std.proofs.Common.{sym, ap, ap₂, ◌∙◌, arith}
 use Rattle.std.proofs.Math.Option.{Option}
 use Rattle.std.proofs.Math.Dec.{eqb}
@@ -12,9 +12,7 @@ use Rattle.algebra.specs.WordLists.{Low}
 use Rattle.basefold.specs.Checks.{Check}
 use Rattle.job.specs.declared.Input.TheVariants.{Block, Z, R}
 use Rattle.job.specs.declared.Refusal.{Refusal}
-use Rattle.job.specs.declared.Answer.TheVariants.{Done, Refused}
-use Rattle.job.specs.declared.Answer.{Answer}
-use Rattle.job.specs.Outcome.{Numbers, Outcome, refused, done, due, outcome, kept, ◌⨾◌}
+use Rattle.job.specs.Outcome.{Answer, Numbers, Outcome, refused, done, due, outcome, kept, ◌⨾◌}
 use Rattle.job.specs.OutcomeLaws.{demand_done, same_refusal}
 use Rattle.job.specs.Limits.{block_size}
 use Rattle.job.specs.Sizes.{base_size, message_size, point_size}
@@ -24,9 +22,7 @@ use Rattle.base_parameters.specs.Parameters.{row_lengths, LegalRows}
 use Rattle.base_parameters.specs.ParameterLaws.{RowsPassed, rows_passed, legal_passed}
 use Rattle.base_spread.specs.LentRows.{codeword_rows}
 use Rattle.encode.specs.Encoding.{encode_lengths, judge_encoding, Encoded}
-use Rattle.open.specs.Writing.{judge_writing, write_lengths, input_lengths, buffer_lengths, value_word, opening_words, written_outcome as wrote, Wrote}
-use Rattle.open.specs.declared.Written.{Written}
-use Rattle.open.specs.declared.Written.TheVariants.{Value, Refused as NotWritten}
+use Rattle.open.specs.Writing.{judge_writing, write_lengths, input_lengths, buffer_lengths, value_word, opening_words, Wrote}
 use Rattle.verdict.specs.Verdicts.{numbers, numbers_of}
 use Rattle.verify.specs.Verifying.{verification}
 use Rattle.verdict.specs.declared.Verdict.{Verdict}
@@ -47,21 +43,21 @@ module _ (𝓕 : PrimeField) where
   open 𝓕 use {modulus as P}
 
   -- what a function that matches on the writer's answer leaves
-  module _ {d c k : ℕ} {g t t' m z r us w o s o' s' : List ℕ} {a : Written} (p : Wrote 𝓕 d c k g t t' m z r o s a o' s') where
-    pub opened : {y : ℕ} {v : Verdict} → a ≡ Value y → numbers v ≡ numbers_of (verification 𝓕 d c k g t t' w z y r us o') → OpenVerify 𝓕 d c k g t t' m z r us w o s v o' s'
+  module _ {d c k : ℕ} {g t t' m z r us w o s o' s' : List ℕ} {a : Result ℕ Refusal} (p : Wrote 𝓕 d c k g t t' m z r o s a o' s') where
+    pub opened : {y : ℕ} {v : Verdict} → a ≡ Ok y → numbers v ≡ numbers_of (verification 𝓕 d c k g t t' w z y r us o') → OpenVerify 𝓕 d c k g t t' m z r us w o s v o' s'
     opened e h =
         record {
-          verdict = h ∙ after_value (judge_writing 𝓕 d c k g t t' m z r (length o) (length s)) (value_word 𝓕 m z) (opening_words 𝓕 c k g t t' m z r) (λ y b. verification 𝓕 d c k g t t' w z y r us b) o (ap wrote (sym e) ∙ p.answer) p.result;
+          verdict = h ∙ after_value (judge_writing 𝓕 d c k g t t' m z r (length o) (length s)) (value_word 𝓕 m z) (opening_words 𝓕 c k g t t' m z r) (λ y b. verification 𝓕 d c k g t t' w z y r us b) o (ap outcome (sym e) ∙ p.answer) p.result;
           opening = p.result;
           work = p.work;
         }
 
-    pub not_opened : {n : Refusal} {v : Verdict} → a ≡ NotWritten n → numbers v ≡ due n → OpenVerify 𝓕 d c k g t t' m z r us w o s v o' s'
-    not_opened e h = record { verdict = h ∙ after_refusal (judge_writing 𝓕 d c k g t t' m z r (length o) (length s)) (value_word 𝓕 m z) _ (ap wrote (sym e) ∙ p.answer); opening = p.result; work = p.work }
+    pub not_opened : {n : Refusal} {v : Verdict} → a ≡ Err n → numbers v ≡ due n → OpenVerify 𝓕 d c k g t t' m z r us w o s v o' s'
+    not_opened e h = record { verdict = h ∙ after_refusal (judge_writing 𝓕 d c k g t t' m z r (length o) (length s)) (value_word 𝓕 m z) _ (ap outcome (sym e) ∙ p.answer); opening = p.result; work = p.work }
 
   -- by the answer of encoding
   module _ {d c k : ℕ} {g t t' m z r us w o s w' : List ℕ} {a : Answer} (p : Encoded 𝓕 d c k g t t' m w a w') where
-    pub committed : {v : Verdict} {o' s' : List ℕ} → a ≡ Done → OpenVerify 𝓕 d c k g t t' m z r us w' o s v o' s' → CommitOpenVerify 𝓕 d c k g t t' m z r us w o s v w' o' s'
+    pub committed : {v : Verdict} {o' s' : List ℕ} → a ≡ (Ok tt) → OpenVerify 𝓕 d c k g t t' m z r us w' o s v o' s' → CommitOpenVerify 𝓕 d c k g t t' m z r us w o s v w' o' s'
     committed e h =
         let u = judge_writing 𝓕 d c k g t t' m z r (length o) (length s) in
         let honestly : List ℕ → Outcome (Option Check) = λ b. verification 𝓕 d c k g t t' b z (value_word 𝓕 m z) r us (opening_words 𝓕 c k g t t' m z r) in
@@ -74,7 +70,7 @@ module _ (𝓕 : PrimeField) where
           work = h.work ∙ ap (λ x. kept (x ⨾ u) s (replicate (length s) 0)) f;
         }
 
-    pub not_committed : {n : Refusal} {v : Verdict} → a ≡ Refused n → numbers v ≡ due n → CommitOpenVerify 𝓕 d c k g t t' m z r us w o s v w' o s
+    pub not_committed : {n : Refusal} {v : Verdict} → a ≡ Err n → numbers v ≡ due n → CommitOpenVerify 𝓕 d c k g t t' m z r us w o s v w' o s
     not_committed {n} e h =
         let u = judge_writing 𝓕 d c k g t t' m z r (length o) (length s) in
         let honestly : List ℕ → Outcome (Option Check) = λ b. verification 𝓕 d c k g t t' b z (value_word 𝓕 m z) r us (opening_words 𝓕 c k g t t' m z r) in

@@ -8,7 +8,7 @@ use Rattle.std.proofs.Math.Logic.Iff
 use Rattle.algebra.specs.Tests.{and_both}
 use Rattle.algebra.specs.Words.{PrimeField}
 use Rattle.determinant.specs.Inverse.{Singular}
-use Rattle.job.specs.declared.Answer.{Answer}
+use Rattle.job.specs.Outcome.{Answer}
 use Rattle.job.specs.declared.Input.TheVariants.{Block, Z, R}
 use Rattle.job.specs.Outcome.{Numbers, Outcome, refused, done, outcome, require, ◌⨾◌}
 use Rattle.job.specs.OutcomeLaws.{named, require_number, demand_number, after_number, chain, from_second, from_first}

@@ -5,7 +5,7 @@ use Rattle.algebra.specs.WordLists.{elements}
 use Rattle.multilinear.specs.Corners.{eq}
 use Rattle.job.specs.Outcome.{Numbers}
 use Rattle.job.specs.declared.Refusal.TheVariants.{NoCodeword}
-use Rattle.job.specs.declared.Answer.TheVariants.{Done, Refused}
+use Rattle.std.specs.Prelude.{Ok, Err}
 use Rattle.residue.specs.Residues.{K, word}
 use Rattle.clearance.specs.Clearances.{residue_of, clearance_of}
 use Rattle.coefficients.specs.Job.{MessageOf}
@@ -55,9 +55,9 @@ Holds (reads a b) = a ≡ b
 Holds (says a b) = a ≡ b
 Holds (coefficients e c) = MessageOf 𝔽₁ e c
 Holds (decodes b c) =
-    (old space : List ℕ) → length old ≡ 2 → length space ≡ 4 → Decoded 𝔽₁ 1 2 1 g t t' b old space Done c (replicate (length space) 0)
+    (old space : List ℕ) → length old ≡ 2 → length space ≡ 4 → Decoded 𝔽₁ 1 2 1 g t t' b old space (Ok tt) c (replicate (length space) 0)
 Holds (refuses b) =
-    (old space : List ℕ) → length old ≡ 2 → length space ≡ 4 → Decoded 𝔽₁ 1 2 1 g t t' b old space (Refused NoCodeword) old (replicate (length space) 0)
+    (old space : List ℕ) → length old ≡ 2 → length space ≡ 4 → Decoded 𝔽₁ 1 2 1 g t t' b old space (Err NoCodeword) old (replicate (length space) 0)
 
 abbrev pub AllProved : List Case → Type 0
 AllProved [] = Unit {0}

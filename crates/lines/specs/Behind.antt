@@ -1,38 +1,13 @@
 -- A fold that is written behind its block, in the same slice. Definitions only. Assumes nothing.
-use Rattle.std.specs.Prelude.{◌≡◌, List, ◌++◌, ℕ, ◌+◌, length, take, drop}
-use Rattle.algebra.specs.Lists.{row}
+use Rattle.std.specs.Prelude.{◌≡◌, List, ◌++◌, ℕ, ◌+◌, length, take}
 use Rattle.algebra.specs.Words.{PrimeField}
-use Rattle.algebra.specs.WordLists.{Low, to_words}
-use Rattle.residue.specs.declared.Field.{Field as Choice}
-use Rattle.residue.specs.Chosen.{chosen}
-use Rattle.residue.specs.Scale.{room}
+use Rattle.algebra.specs.WordLists.{Low}
 use Rattle.inversion.specs.Inversion.{Diagonals}
 use Rattle.lines.specs.Folds.{fold_words}
-use Rattle.lines.specs.Steps.{lines_by}
 
 -- a block of two halves, each as long as its diagonal t
 abbrev pub block_before : List ℕ → List ℕ → List ℕ
 block_before t w = take (length t + length t) w
-
--- what stands behind it
-abbrev pub behind : List ℕ → List ℕ → List ℕ
-behind t w = drop (length t + length t) w
-
-module _ (f : Choice) where
-  open chosen f use {modulus as P, field as F}
-  open F use {ring as K}
-  open K use {R as Element}
-
-  -- loose words for the inverses, behind the block
-  pub record BehindLent (t w : List ℕ) : Type 0 where
-    pub whole : length w ≡ length t + length t + length t
-    pub low : Low P t
-    pub block : Low P (block_before t w)
-    pub inverses : Low (room f) (behind t w)
-
-  -- give way to the lines
-  abbrev pub drawn_behind : Element → List ℕ → List ℕ → List ℕ
-  drawn_behind a t w = block_before t w ++ to_words (chosen f) (row (length t) (lines_by f (length t) a t (block_before t w) (behind t w)))
 
 module _ (𝓕 : PrimeField) where
   open 𝓕 use {modulus as P}

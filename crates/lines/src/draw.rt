@@ -56,9 +56,7 @@ pub fn draw(t: &[u32], block: &[u32], challenge: Residue, out: &mut [u32], field
     requires { Low (chosen field) challenge × LinesLent field t.now block.now out.old }
     ensures { out.new ≡ to_words (chosen field) (row (length out.old) (lines_by field (length out.old) (elem (chosen field) challenge) t.now block.now out.old)) }
 {
-    let mut j = 0;
-    while j < out.len() {
+    for j in 0..out.len() {
         out[j] = line_at(challenge, t, block, out, j, field).word();
-        j += 1;
     }
 }

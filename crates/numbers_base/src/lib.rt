@@ -2,22 +2,10 @@
 #![tactic(auto)]
 
 use job::Parameters;
+use print::parameters as base;
 use reply::answer::Reply;
 use std::io;
 use tvarchula::{coding, filling, ground, opening};
-
-fn base(depth: u32, rate: u32, k0: u32) -> Parameters {
-    Parameters {
-        depth: depth,
-        rate: rate,
-        k0: k0,
-    }
-}
-
-fn answer(rt: &impl Print, text: &[u8], a: Reply) -> io::Result<()> {
-    print::label(rt, text)?;
-    print::places(rt, a.number, a.first, a.second)
-}
 
 // Two rows of four words: 0 1 3 4 and four others. T is 2 3 4 5, T' is 6 7 8 9.
 fn encode(
@@ -31,7 +19,7 @@ fn encode(
     let t = [2u32, 3, 4, 5];
     let t2 = [6u32, 7, 8, 9];
     let message = [5u32, 7, 2, 3];
-    answer(
+    print::reply(
         rt,
         text,
         coding::tv_encode(false, p, &g, &t, &t2, &message, block),
@@ -57,7 +45,7 @@ fn decode(rt: &impl Print, text: &[u8], last: u32) -> io::Result<()> {
     let block = [65u32, 107, 172, 236, 125, 187, 280, last];
     let mut message = [0u32; 4];
     let mut work = [9u32; 8];
-    answer(
+    print::reply(
         rt,
         text,
         coding::tv_decode(
@@ -85,7 +73,7 @@ pub fn foldings(rt: &impl Print) -> io::Result<()> {
     let t2 = [6u32, 7, 8, 9];
     let block = [65u32, 107, 172, 236, 125, 187, 280, 364];
     let mut folded = [0u32; 4];
-    answer(
+    print::reply(
         rt,
         b"fold by 4:",
         coding::tv_fold(false, base(1, 2, 2), &t, &t2, &block, 4, &mut folded),
@@ -120,7 +108,7 @@ fn write(opened: &mut [u32], y: &mut u32) -> Reply {
 pub fn written(rt: &impl Print) -> io::Result<()> {
     let mut opened = [0u32; 9];
     let mut y = 0u32;
-    answer(rt, b"write at 3 11 by 4:", write(&mut opened, &mut y))?;
+    print::reply(rt, b"write at 3 11 by 4:", write(&mut opened, &mut y))?;
     print::line(rt, b"f(3, 11):", y)?;
     print::words(rt, b"the opening:", &opened)
 }
@@ -135,7 +123,7 @@ fn verify(rt: &impl Print, text: &[u8], y: u32, v0: u32, v1: u32, last: u32) -> 
     let r = [4u32];
     let queries = [0u32, 3];
     let opened = [2147483387u32, 407, 1536, v0, v1, 95, 127, 172, last];
-    answer(
+    print::reply(
         rt,
         text,
         opening::tv_verify_opening(
@@ -172,7 +160,7 @@ pub fn four(rt: &impl Print) -> io::Result<()> {
     let none = [0u32; 0];
     let message = [9u32, 8, 7, 6];
     let mut block = [0u32; 8];
-    answer(
+    print::reply(
         rt,
         b"k0 = 4, depth 0, encode 9 8 7 6:",
         coding::tv_encode(false, base(0, 2, 4), &g, &none, &none, &message, &mut block),
@@ -185,7 +173,7 @@ pub fn sizes(rt: &impl Print) -> io::Result<()> {
     let message = [9u32, 8, 7, 6];
     let z = [3u32, 11];
     let mut value = 0u32;
-    answer(
+    print::reply(
         rt,
         b"9 8 7 6 at 3 11, rate 0:",
         ground::tv_evaluate(false, base(0, 0, 4), &message, &z, &mut value),
@@ -193,17 +181,17 @@ pub fn sizes(rt: &impl Print) -> io::Result<()> {
     print::line(rt, b"value", value)?;
     let t = [3i32, 5];
     let mut m = [0u32; 2];
-    answer(
+    print::reply(
         rt,
         b"table of 2 entries, k0 = 2:",
         ground::tv_table_to_coefficients(false, base(99, 99, 2), &t, &mut m),
     )?;
-    answer(
+    print::reply(
         rt,
         b"table of 2 entries, k0 = 4:",
         ground::tv_table_to_coefficients(false, base(99, 99, 4), &t, &mut m),
     )?;
-    answer(
+    print::reply(
         rt,
         b"table of 2 entries, k0 = 3:",
         ground::tv_table_to_coefficients(false, base(99, 99, 3), &t, &mut m),
@@ -214,7 +202,7 @@ pub fn not_filled(rt: &impl Print) -> io::Result<()> {
     let mut g = [7u32; 2];
     let mut t = [7u32; 2];
     let mut t2 = [7u32; 2];
-    answer(
+    print::reply(
         rt,
         b"fill with k0 = 2:",
         filling::tv_fill_roots(base(1, 2, 2), &mut g, &mut t, &mut t2),

@@ -7,11 +7,7 @@ use std::io;
 
 // Base messages of one word.
 fn one_word(depth: u32, rate: u32) -> Parameters {
-    Parameters {
-        depth: depth,
-        rate: rate,
-        k0: 1,
-    }
+    print::parameters(depth, rate, 1)
 }
 
 fn encode(

@@ -7,11 +7,7 @@ use tvarchula::{coding, filling, opening};
 
 // Base messages of one word.
 fn one_word(depth: u32, rate: u32) -> Parameters {
-    Parameters {
-        depth: depth,
-        rate: rate,
-        k0: 1,
-    }
+    print::parameters(depth, rate, 1)
 }
 
 fn verify(rt: &impl Print, text: &[u8], field: bool, y: u32) -> io::Result<()> {
@@ -23,7 +19,7 @@ fn verify(rt: &impl Print, text: &[u8], field: bool, y: u32) -> io::Result<()> {
     let r = [4u32];
     let queries = [0u32, 1];
     let opened = [2013265911u32, 36, 152, 33, 33, 33];
-    numbers_second::answer(
+    print::reply(
         rt,
         text,
         opening::tv_verify_opening(
@@ -53,7 +49,7 @@ pub fn filled(rt: &impl Print) -> io::Result<()> {
     let mut g = [0u32; 2];
     let mut t = [0u32; 6];
     let mut t2 = [0u32; 6];
-    numbers_second::answer(
+    print::reply(
         rt,
         b"fill depth 2, rate 2:",
         filling::tv_fill_roots(one_word(2, 2), &mut g, &mut t, &mut t2),
@@ -63,7 +59,7 @@ pub fn filled(rt: &impl Print) -> io::Result<()> {
     print::words(rt, b"T'", &t2)?;
     let message = [1u32, 2, 3, 4];
     let mut block = [0u32; 8];
-    numbers_second::answer(
+    print::reply(
         rt,
         b"encode 1 2 3 4:",
         coding::tv_encode(true, one_word(2, 2), &g, &t, &t2, &message, &mut block),
@@ -80,7 +76,7 @@ fn fill(
     t: &mut [u32],
 ) -> io::Result<()> {
     let mut t2 = [7u32; 3];
-    numbers_second::answer(
+    print::reply(
         rt,
         text,
         filling::tv_fill_roots(one_word(depth, rate), g, t, &mut t2),

@@ -1,30 +1,25 @@
 // Clearances, tables and evaluation.
 #![tactic(auto)]
 
-use evaluate::Evaluation;
-use job::{Answer, Parameters, Refusal, sizes};
+use job::{Parameters, Refusal, sizes};
 use read_clearance::Reading;
 use residue::Field;
 use std::io;
 
 // Base messages of one word.
 fn one_word(depth: u32) -> Parameters {
-    Parameters {
-        depth: depth,
-        rate: 2,
-        k0: 1,
-    }
+    print::parameters(depth, 2, 1)
 }
 
-fn meaning(rt: &impl Print, r: Reading) -> io::Result<()> {
+fn meaning(rt: &impl Print, r: Result<Reading, Refusal>) -> io::Result<()> {
     match r {
-        Reading::Free(n) => print::line(rt, b": free", n),
-        Reading::Contact => {
+        Ok(Reading::Free(n)) => print::line(rt, b": free", n),
+        Ok(Reading::Contact) => {
             print::label(rt, b": contact")?;
             print::end(rt)
         }
-        Reading::Overlap(n) => print::line(rt, b": overlap", n),
-        Reading::Refused(r) => print::refusal(rt, b": refused", r),
+        Ok(Reading::Overlap(n)) => print::line(rt, b": overlap", n),
+        Err(r) => print::refusal(rt, b": refused", r),
     }
 }
 
@@ -118,10 +113,10 @@ pub fn transforms(rt: &impl Print) -> io::Result<()> {
     back_and_there(rt, &m)
 }
 
-fn value(rt: &impl Print, e: Evaluation) -> io::Result<()> {
+fn value(rt: &impl Print, e: Result<u32, Refusal>) -> io::Result<()> {
     match e {
-        Evaluation::Value(v) => print::line(rt, b" value", v),
-        Evaluation::Refused(r) => print::refusal(rt, b" refused", r),
+        Ok(v) => print::line(rt, b" value", v),
+        Err(r) => print::refusal(rt, b" refused", r),
     }
 }
 
@@ -148,11 +143,7 @@ fn depth(rt: &impl Print, text: &[u8], depth: u32) -> io::Result<()> {
     print::answer(
         rt,
         text,
-        job::require(
-            sizes::depth_ok(one_word(depth)),
-            Refusal::Depth,
-            Answer::Done,
-        ),
+        job::require(sizes::depth_ok(one_word(depth)), Refusal::Depth),
     )
 }
 

@@ -1,20 +1,13 @@
 // Openings, with the places that a failure names.
 #![tactic(auto)]
 
-use job::Parameters;
-use reply::answer::Reply;
 use std::io;
 use tvarchula::opening;
 
 pub mod openings;
 
-pub fn verdict(rt: &impl Print, text: &[u8], v: Reply) -> io::Result<()> {
-    print::label(rt, text)?;
-    print::places(rt, v.number, v.first, v.second)
-}
-
 fn one_word(rt: &impl Print, text: &[u8], y: u32, queries: &[u32]) -> io::Result<()> {
-    verdict(rt, text, openings::depth_0(y, queries))
+    print::reply(rt, text, openings::depth_0(y, queries))
 }
 
 pub fn depth_0(rt: &impl Print) -> io::Result<()> {
@@ -27,7 +20,7 @@ pub fn depth_0(rt: &impl Print) -> io::Result<()> {
 
 fn asked(rt: &impl Print, text: &[u8], y: u32, queries: &[u32]) -> io::Result<()> {
     let opened = [2147483637u32, 36, 152, 33, 33, 33];
-    verdict(rt, text, openings::depth_1(3, y, 4, queries, &opened))
+    print::reply(rt, text, openings::depth_1(3, y, 4, queries, &opened))
 }
 
 pub fn queries(rt: &impl Print) -> io::Result<()> {
@@ -56,7 +49,7 @@ pub fn repeated(rt: &impl Print) -> io::Result<()> {
 fn any_v(rt: &impl Print, text: &[u8], v: u32) -> io::Result<()> {
     let opened = [5u32, 0, 2147483628, v, v, v];
     let queries = [0u32];
-    verdict(rt, text, openings::depth_1(0, 5, 1, &queries, &opened))
+    print::reply(rt, text, openings::depth_1(0, 5, 1, &queries, &opened))
 }
 
 pub fn eq_is_0(rt: &impl Print) -> io::Result<()> {
@@ -82,7 +75,7 @@ fn place(rt: &impl Print, text: &[u8], query: u32, word: u32) -> io::Result<()> 
         263,
         263,
     ];
-    verdict(rt, text, openings::depth_2(query, &opened))
+    print::reply(rt, text, openings::depth_2(query, &opened))
 }
 
 pub fn places(rt: &impl Print) -> io::Result<()> {
@@ -99,11 +92,7 @@ fn write(opened: &mut [u32], y: &mut u32) -> u32 {
     let z = [5u32, 6];
     let r = [7u32, 8];
     let mut work = [0u32; 8];
-    let p = Parameters {
-        depth: 2,
-        rate: 2,
-        k0: 1,
-    };
+    let p = print::parameters(2, 2, 1);
     opening::tv_write_opening(
         false, p, &g, &t, &t2, &message, &z, &r, opened, &mut work, y,
     )

@@ -5,7 +5,6 @@ ghost use Rattle.verdict.specs.Verdicts.{numbers_of};
 ghost use Rattle.verify.specs.Verifying.{verification};
 ghost use Rattle.reply.specs.Replies.{triple};
 
-use job::Parameters;
 use reply::answer::Reply;
 use tvarchula::opening;
 
@@ -17,11 +16,7 @@ pub fn depth_0(y: u32, queries: &[u32]) -> Reply
     let none = [0u32; 0];
     let block = [9u32, 9];
     let opened = [9u32];
-    let p = Parameters {
-        depth: 0,
-        rate: 2,
-        k0: 1,
-    };
+    let p = print::parameters(0, 2, 1);
     opening::tv_verify_opening(
         false, p, &g, &none, &none, &block, &none, y, &none, queries, &opened,
     )
@@ -37,11 +32,7 @@ pub fn depth_1(z: u32, y: u32, r: u32, queries: &[u32], opened: &[u32]) -> Reply
     let block = [19u32, 26, 2147483638, 2147483631];
     let zs = [z];
     let rs = [r];
-    let p = Parameters {
-        depth: 1,
-        rate: 2,
-        k0: 1,
-    };
+    let p = print::parameters(1, 2, 1);
     opening::tv_verify_opening(false, p, &g, &t, &t2, &block, &zs, y, &rs, queries, opened)
 }
 
@@ -56,10 +47,6 @@ pub fn depth_2(query: u32, opened: &[u32]) -> Reply
     let z = [5u32, 6];
     let r = [7u32, 8];
     let queries = [query];
-    let p = Parameters {
-        depth: 2,
-        rate: 2,
-        k0: 1,
-    };
+    let p = print::parameters(2, 2, 1);
     opening::tv_verify_opening(false, p, &g, &t, &t2, &block, &z, 149, &r, &queries, opened)
 }

@@ -1,7 +1,6 @@
 // Where the refusals 4, 5 and 6 find the first fault: index and input with 4, the index with 5 and 6.
 #![tactic(auto)]
 
-use job::Parameters;
 use numbers_openings::openings;
 use std::io;
 use tvarchula::coding;
@@ -16,12 +15,8 @@ fn encode(
     message: &[u32],
 ) -> io::Result<()> {
     let mut block = [0u32; 8];
-    let p = Parameters {
-        depth: 2,
-        rate: 2,
-        k0: 1,
-    };
-    numbers_openings::verdict(
+    let p = print::parameters(2, 2, 1);
+    print::reply(
         rt,
         text,
         coding::tv_encode(false, p, g, t, t2, message, &mut block),
@@ -62,12 +57,8 @@ fn fold(rt: &impl Print, text: &[u8], challenge: u32, block: &[u32]) -> io::Resu
     let t = [2u32, 3];
     let t2 = [2147483645u32, 3];
     let mut folded = [0u32; 2];
-    let p = Parameters {
-        depth: 1,
-        rate: 2,
-        k0: 1,
-    };
-    numbers_openings::verdict(
+    let p = print::parameters(1, 2, 1);
+    print::reply(
         rt,
         text,
         coding::tv_fold(false, p, &t, &t2, block, challenge, &mut folded),
@@ -90,7 +81,7 @@ pub fn folds(rt: &impl Print) -> io::Result<()> {
 fn verify(rt: &impl Print, text: &[u8], z: u32, y: u32, r: u32) -> io::Result<()> {
     let queries = [0u32];
     let opened = [2147483637u32, 36, 152, 33, 2147483647, 2147483647];
-    numbers_openings::verdict(rt, text, openings::depth_1(z, y, r, &queries, &opened))
+    print::reply(rt, text, openings::depth_1(z, y, r, &queries, &opened))
 }
 
 // The opening has two words that are too large.

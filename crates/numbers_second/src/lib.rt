@@ -2,22 +2,12 @@
 #![tactic(auto)]
 
 use job::Parameters;
-use reply::answer::Reply;
 use std::io;
 use tvarchula::{coding, ground};
 
 // Base messages of one word.
 fn one_word(depth: u32) -> Parameters {
-    Parameters {
-        depth: depth,
-        rate: 2,
-        k0: 1,
-    }
-}
-
-pub fn answer(rt: &impl Print, text: &[u8], a: Reply) -> io::Result<()> {
-    print::label(rt, text)?;
-    print::places(rt, a.number, a.first, a.second)
+    print::parameters(depth, 2, 1)
 }
 
 // Number and places, kind and amount.
@@ -27,7 +17,7 @@ fn read(rt: &impl Print, word: u32) -> io::Result<()> {
     print::number(rt, word)?;
     print::number(rt, r.kind)?;
     print::number(rt, r.amount)?;
-    answer(rt, b":", r.answer)
+    print::reply(rt, b":", r.answer)
 }
 
 pub fn readings(rt: &impl Print) -> io::Result<()> {
@@ -40,7 +30,7 @@ pub fn readings(rt: &impl Print) -> io::Result<()> {
 fn range(rt: &impl Print, text: &[u8], x: i32) -> io::Result<()> {
     let t = [x];
     let mut m = [0u32; 1];
-    answer(
+    print::reply(
         rt,
         text,
         ground::tv_table_to_coefficients(true, one_word(0), &t, &mut m),
@@ -56,7 +46,7 @@ pub fn ranges(rt: &impl Print) -> io::Result<()> {
 pub fn transforms(rt: &impl Print) -> io::Result<()> {
     let t = [-1i32, 1, 4, -10];
     let mut m = [0u32; 4];
-    answer(
+    print::reply(
         rt,
         b"table -1 1 4 -10:",
         ground::tv_table_to_coefficients(true, one_word(0), &t, &mut m),
@@ -68,7 +58,7 @@ fn evaluate(rt: &impl Print, text: &[u8], z: u32) -> io::Result<()> {
     let m = [5u32, 7];
     let point = [z];
     let mut value = 0u32;
-    answer(
+    print::reply(
         rt,
         text,
         ground::tv_evaluate(true, one_word(1), &m, &point, &mut value),
@@ -88,14 +78,14 @@ pub fn encodings(rt: &impl Print) -> io::Result<()> {
     let t2 = [2013265919u32, 2013265918];
     let message = [5u32, 7];
     let mut block = [0u32; 4];
-    answer(
+    print::reply(
         rt,
         b"encode 5 7:",
         coding::tv_encode(true, one_word(1), &g, &t, &t2, &message, &mut block),
     )?;
     print::words(rt, b"codeword", &block)?;
     let mut folded = [0u32; 2];
-    answer(
+    print::reply(
         rt,
         b"fold by 4:",
         coding::tv_fold(true, one_word(1), &t, &t2, &block, 4, &mut folded),
@@ -110,7 +100,7 @@ fn decode(rt: &impl Print, text: &[u8], last: u32) -> io::Result<()> {
     let block = [19u32, 26, 2013265912, last];
     let mut message = [0u32; 2];
     let mut work = [9u32; 4];
-    answer(
+    print::reply(
         rt,
         text,
         coding::tv_decode(

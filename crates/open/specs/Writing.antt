@@ -1,21 +1,15 @@
 -- The job of writing an opening: its answer, its result and its work buffer, for every input. Assumes nothing.
-use Rattle.std.specs.Prelude.{◌≡◌, Bool, ◌&&◌, List, [], ◌∷◌, ℕ, ◌*◌, eqb, length, replicate}
+use Rattle.std.specs.Prelude.{◌≡◌, Bool, ◌&&◌, List, [], ◌∷◌, ℕ, ◌*◌, eqb, length, replicate, Result}
 use Rattle.algebra.specs.Words.{PrimeField}
 use Rattle.algebra.specs.WordLists.{elements}
 use Rattle.job.specs.declared.Input.TheVariants.{Block, Z, R}
-use Rattle.job.specs.Outcome.{Outcome, refused, done, ◌⨾◌, kept, due}
+use Rattle.job.specs.Outcome.{Outcome, refused, done, outcome, ◌⨾◌, kept}
 use Rattle.multilinear.specs.Polynomial.{poly}
 use Rattle.words.specs.Scans.{all_below}
 use Rattle.job.specs.Sizes.{base_size, message_size, low, point_size, opening_size}
 use Rattle.base_parameters.specs.Parameters.{row_lengths, judge_rows}
 use Rattle.base_rounds.specs.RowOpening.{opening_rows}
-use Rattle.open.specs.declared.Written.{Written}
-use Rattle.open.specs.declared.Written.TheVariants.{Value, Refused}
-
--- what an answer says: the value's word, or the refusal's number
-abbrev pub written_outcome : Written → Outcome ℕ
-written_outcome (Value v) = done v
-written_outcome (Refused r) = refused (due r)
+use Rattle.job.specs.declared.Refusal.{Refusal}
 
 -- of the lengths of message, point and challenges
 unfoldable pub input_lengths : ℕ → ℕ → ℕ → ℕ → ℕ → Bool
@@ -51,7 +45,7 @@ module _ (𝓕 : PrimeField) where
   opening_words c k g t t' m z r = opening_rows 𝓕 (low k) k (base_size c k) g t t' m z r
 
   -- answer a, opening o' and work s': refused as above, and both as they were; or f(z), the opening as it is defined, and zeros
-  pub record Wrote (d c k : ℕ) (g t t' m z r o s : List ℕ) (a : Written) (o' s' : List ℕ) : Type 0 where
-    pub answer : written_outcome a ≡ judge_writing d c k g t t' m z r (length o) (length s) ⨾ done (value_word m z)
+  pub record Wrote (d c k : ℕ) (g t t' m z r o s : List ℕ) (a : Result ℕ Refusal) (o' s' : List ℕ) : Type 0 where
+    pub answer : outcome a ≡ judge_writing d c k g t t' m z r (length o) (length s) ⨾ done (value_word m z)
     pub result : o' ≡ kept (judge_writing d c k g t t' m z r (length o) (length s)) o (opening_words c k g t t' m z r)
     pub work : s' ≡ kept (judge_writing d c k g t t' m z r (length o) (length s)) s (replicate (length s) 0)

@@ -6,36 +6,32 @@ ghost use Rattle.job.specs.Sizes.{in_limits, size_ok};
 ghost use Rattle.open.specs.Writing.{input_lengths, buffer_lengths, write_lengths, input_words, judge_writing};
 
 use base_parameters::judging;
-use job::{Answer, Parameters, sizes};
+use base_parameters::judging::Flags;
+use job::{Parameters, Refusal, sizes};
+use places::inputs::Inputs;
 use residue::Field;
 use words::scan;
 
 // Of the lengths of message, point and challenges.
+#[tactic(auto, unfolding(crate::specs::Writing::input_lengths))]
 fn inputs_ok(p: Parameters, m: usize, z: usize, r: usize) -> bool
     requires { size_ok p.depth p.k0 ≡ true }
     ensures { result ≡ input_lengths p.depth p.k0 m z r }
 {
-    if m != sizes::message_len(p) {
-        return false;
-    }
-    if z != sizes::point_len(p) {
-        return false;
-    }
-    r == p.depth as usize
+    m == sizes::message_len(p) && z == sizes::point_len(p) && r == p.depth as usize
 }
 
 // Of the lengths of opening and work.
+#[tactic(auto, unfolding(crate::specs::Writing::buffer_lengths))]
 fn buffers_ok(p: Parameters, o: usize, s: usize) -> bool
     requires { in_limits p.depth p.rate p.k0 ≡ true }
     ensures { result ≡ buffer_lengths p.depth p.rate p.k0 o s }
 {
-    if o != sizes::opening_len(p) {
-        return false;
-    }
-    s == 2 * sizes::message_len(p)
+    o == sizes::opening_len(p) && s == 2 * sizes::message_len(p)
 }
 
 // Whether the record is legal and all slices have the lengths that it gives.
+#[tactic(auto, unfolding(crate::specs::Writing::write_lengths))]
 fn lengths_ok(
     p: Parameters,
     g: usize,
@@ -49,37 +45,29 @@ fn lengths_ok(
 ) -> bool
     ensures { result ≡ (in_limits p.depth p.rate p.k0 && write_lengths p.depth p.rate p.k0 g t t2 m z r o s) }
 {
-    if !judging::lengths_ok(p, g, t, t2) {
-        return false;
-    }
-    if !inputs_ok(p, m, z, r) {
-        return false;
-    }
-    buffers_ok(p, o, s)
+    judging::lengths_ok(p, g, t, t2) && inputs_ok(p, m, z, r) && buffers_ok(p, o, s)
 }
 
 // Whether all words are below the modulus, where those of base matrix and diagonals are.
+#[tactic(auto, unfolding(crate::specs::Writing::input_words))]
 fn words_ok(row: bool, m: &[u32], z: &[u32], r: &[u32], field: Field) -> bool
     ensures { result ≡ (row && input_words (chosen field) m.now z.now r.now) }
 {
-    if !row {
-        return false;
-    }
-    scan::three_below(m, z, r, field)
+    row && scan::all_below(m, field) && scan::all_below(z, field) && scan::all_below(r, field)
 }
 
-pub fn judge(
+pub fn judge<'a>(
     p: Parameters,
-    g: &[u32],
-    t: &[u32],
-    t2: &[u32],
-    m: &[u32],
-    z: &[u32],
-    r: &[u32],
+    g: &'a [u32],
+    t: &'a [u32],
+    t2: &'a [u32],
+    m: &'a [u32],
+    z: &'a [u32],
+    r: &'a [u32],
     o: usize,
     s: usize,
     field: Field,
-) -> Answer
+) -> Result<(), Refusal>
     ensures { outcome result ≡ judge_writing (chosen field) p.depth p.rate p.k0 g.now t.now t2.now m.now z.now r.now o s }
 {
     let lengths = lengths_ok(
@@ -94,9 +82,19 @@ pub fn judge(
         s,
     );
     let row = parameters::scan_row(lengths, g, t, t2, field);
-    let words = words_ok(row.words, m, z, r, field);
-    let none = &g[..0];
-    judging::judge(
-        p, g, t, t2, m, z, none, r, none, lengths, words, row.apart, field,
-    )
+    let lent = Inputs {
+        g,
+        t,
+        t2,
+        block: m,
+        z,
+        r,
+        ..Inputs::NONE
+    };
+    let flags = Flags {
+        lengths,
+        words: words_ok(row.words, m, z, r, field),
+        apart: row.apart,
+    };
+    judging::judge(p, &lent, flags, field)
 }

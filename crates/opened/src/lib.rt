@@ -8,11 +8,14 @@ ghost use Rattle.job.specs.Sizes.{in_limits};
 ghost use Rattle.opened.specs.Opened.{opened_lengths, claim_words, judge_opened};
 
 use base_parameters::judging;
-use job::{Answer, Parameters, sizes};
+use base_parameters::judging::Flags;
+use job::{Parameters, Refusal, sizes};
+use places::inputs::Inputs;
 use residue::{Field, Residue};
 use words::scan;
 
 // Whether the record is legal and g, t, t2, block, z, r and opening have the lengths that it gives.
+#[tactic(auto, unfolding(crate::specs::Opened::opened_lengths))]
 fn lengths_ok(
     p: Parameters,
     g: usize,
@@ -25,19 +28,11 @@ fn lengths_ok(
 ) -> bool
     ensures { result ≡ (in_limits p.depth p.rate p.k0 && opened_lengths p.depth p.rate p.k0 g t t2 block z r opening) }
 {
-    if !judging::lengths_ok(p, g, t, t2) {
-        return false;
-    }
-    if block != sizes::block_len(p, p.depth) {
-        return false;
-    }
-    if z != sizes::point_len(p) {
-        return false;
-    }
-    if r != p.depth as usize {
-        return false;
-    }
-    opening == sizes::opening_len(p)
+    judging::lengths_ok(p, g, t, t2)
+        && block == sizes::block_len(p, p.depth)
+        && z == sizes::point_len(p)
+        && r == p.depth as usize
+        && opening == sizes::opening_len(p)
 }
 
 // Whether all words are below the modulus, where those of base matrix and diagonals are.
@@ -52,37 +47,26 @@ fn words_ok(
 ) -> bool
     ensures { result ≡ (row && claim_words (chosen field) block.now z.now y r.now opening.now) }
 {
-    if !row {
-        return false;
-    }
-    if !scan::all_below(block, field) {
-        return false;
-    }
-    if !scan::all_below(z, field) {
-        return false;
-    }
-    if y >= Residue::modulus(field) {
-        return false;
-    }
-    if !scan::all_below(r, field) {
-        return false;
-    }
-    scan::all_below(opening, field)
+    row && scan::all_below(block, field)
+        && scan::all_below(z, field)
+        && y < Residue::modulus(field)
+        && scan::all_below(r, field)
+        && scan::all_below(opening, field)
 }
 
 // All that is lent but the queries.
-pub fn judge_opened(
+pub fn judge_opened<'a>(
     p: Parameters,
-    g: &[u32],
-    t: &[u32],
-    t2: &[u32],
-    block: &[u32],
-    z: &[u32],
+    g: &'a [u32],
+    t: &'a [u32],
+    t2: &'a [u32],
+    block: &'a [u32],
+    z: &'a [u32],
     y: u32,
-    r: &[u32],
-    opening: &[u32],
+    r: &'a [u32],
+    opening: &'a [u32],
     field: Field,
-) -> Answer
+) -> Result<(), Refusal>
     ensures { outcome result ≡ judge_opened (chosen field) p.depth p.rate p.k0 g.now t.now t2.now block.now z.now y r.now opening.now }
 {
     let lengths = lengths_ok(
@@ -96,9 +80,21 @@ pub fn judge_opened(
         opening.len(),
     );
     let row = parameters::scan_row(lengths, g, t, t2, field);
-    let words = words_ok(row.words, block, z, y, r, opening, field);
     let claim = [y];
-    judging::judge(
-        p, g, t, t2, block, z, &claim, r, opening, lengths, words, row.apart, field,
-    )
+    let lent = Inputs {
+        g,
+        t,
+        t2,
+        block,
+        z,
+        y: &claim,
+        r,
+        opening,
+    };
+    let flags = Flags {
+        lengths,
+        words: words_ok(row.words, block, z, y, r, opening, field),
+        apart: row.apart,
+    };
+    judging::judge(p, &lent, flags, field)
 }

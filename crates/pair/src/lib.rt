@@ -9,7 +9,7 @@ ghost use Rattle.pair.specs.PairWords.{pair_of, pair_at, LowPair, Stands, PairLe
 
 use residue::{Field, Residue};
 
-#[derive(Clone, Copy)]
+#[derive(Clone, Copy, Debug, PartialEq, Eq)]
 pub struct Pair {
     pub re: Residue,
     pub im: Residue,

@@ -39,12 +39,8 @@ pub fn draw(t: &[u32], block: &[u32], challenge: Pair, out: &mut [u32])
     requires { LowPair 𝔽₁ challenge × PairLinesLent 𝔽₁ t.now block.now out.old }
     ensures { out.new ≡ pair_words 𝔽₁ (row (length t.now) (pair_lines 𝔽₁ (length t.now) (pair_of 𝔽₁ challenge) t.now block.now out.old)) }
 {
-    let n = t.len();
-    let mut left = n;
-    while 0 < left {
-        let j = left - 1;
+    for j in (0..t.len()).rev() {
         let p = line_at(challenge, t, block, out, j);
         pair::store(out, j, p);
-        left -= 1;
     }
 }

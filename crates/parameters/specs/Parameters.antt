@@ -4,6 +4,7 @@ use Rattle.algebra.specs.Words.{PrimeField}
 use Rattle.job.specs.declared.Input.TheVariants.{G, T, T2}
 use Rattle.words.specs.Scans.{all_below, all_differ}
 use Rattle.places.specs.Inputs.{Lent, Short}
+use Rattle.places.specs.declared.inputs.Inputs.{Inputs}
 
 -- base matrix and diagonals, the first of a job's inputs
 abbrev pub row_inputs : List ℕ → List ℕ → List ℕ → List Lent
@@ -21,3 +22,6 @@ module _ (𝓕 : PrimeField) where
 -- where the lengths are right, each word has an index
 abbrev pub Sized : Bool → (g t t' w z y r o : List ℕ) → Type 0
 Sized lengths g t t' w z y r o = lengths ≡ true → Short g t t' w z y r o
+
+abbrev pub AllSized : Bool → Inputs → Type 0
+AllSized lengths i = Sized lengths i.g.now i.t.now i.t2.now i.block.now i.z.now i.y.now i.r.now i.opening.now

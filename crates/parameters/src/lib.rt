@@ -10,7 +10,7 @@ use residue::Field;
 use words::scan;
 
 // What one pass over base matrix and diagonals finds, where all lengths are right.
-#[derive(Clone, Copy)]
+#[derive(Clone, Copy, Debug, PartialEq, Eq)]
 pub struct RowScan {
     // All words of g, t and t2 are below the modulus.
     pub words: bool,
@@ -18,6 +18,7 @@ pub struct RowScan {
     pub apart: bool,
 }
 
+#[tactic(auto, unfolding(crate::specs::Parameters::row_words))]
 pub fn scan_row(lengths: bool, g: &[u32], t: &[u32], t2: &[u32], field: Field) -> RowScan
     ensures { RowScanned (chosen field) lengths g.now t.now t2.now result.words result.apart }
 {
@@ -39,8 +40,5 @@ pub fn scan_row(lengths: bool, g: &[u32], t: &[u32], t2: &[u32], field: Field) -
 pub fn all_words_ok(row: bool, m: &[u32], field: Field) -> bool
     ensures { result ≡ (row && all_below (chosen field) m.now) }
 {
-    if !row {
-        return false;
-    }
-    scan::all_below(m, field)
+    row && scan::all_below(m, field)
 }

@@ -21,8 +21,7 @@ pub fn cross(t: &[u32], t2: &[u32], out: &mut [u32], field: Field)
     ensures { Scaled (chosen field) (el (chosen field) (scale field)) (across (F (chosen field)) (elements (chosen field) t.now) (elements (chosen field) t2.now) (elements (chosen field) out.old)) out.new }
 {
     let n = t.len();
-    let mut i = 0;
-    while i < n {
+    for i in 0..n {
         let k = n + i;
         let l = out[i];
         let r = entry::ready(out[k], field);
@@ -30,7 +29,6 @@ pub fn cross(t: &[u32], t2: &[u32], out: &mut [u32], field: Field)
         let b = entry::plus_product_loose(l, t2[i], r, field);
         out[i] = a;
         out[k] = b;
-        i += 1;
     }
 }
 
@@ -40,17 +38,16 @@ fn sweep_in(count: usize, t: &[u32], t2: &[u32], out: &mut [u32], field: Field)
     ensures { Scaled (chosen field) (el (chosen field) (scale field)) (swept (F (chosen field)) (elements (chosen field) t.now) (elements (chosen field) t2.now) count (elements (chosen field) out.old)) out.new }
 {
     let n = t.len();
-    let mut i = 0;
     let mut b = 0;
-    while i < count {
+    for i in 0..count {
         let e = b + n + n;
         cross(t, t2, &mut out[b..e], field);
         b = e;
-        i += 1;
     }
 }
 
-// The same, with the field as a constant: the compiler makes loops for each field.
+// The same, with the field as a constant: the compiler makes loops for each field. A function of its own, since of a slice that a closure
+// writes nothing is known afterwards.
 fn sweep(count: usize, t: &[u32], t2: &[u32], out: &mut [u32], field: Field)
     requires { SweepInput (chosen field) count t.now t2.now out.old }
     ensures { Scaled (chosen field) (el (chosen field) (scale field)) (swept (F (chosen field)) (elements (chosen field) t.now) (elements (chosen field) t2.now) count (elements (chosen field) out.old)) out.new }
@@ -66,16 +63,14 @@ pub fn low_levels(depth: u32, g: &[u32], t: &[u32], t2: &[u32], out: &mut [u32],
     requires { (depth ≤ max_depth) × LooseInput (chosen field) depth g.now t.now t2.now out.old }
     ensures { Scaled (chosen field) (scale_power field depth) (lifted (F (chosen field)) (lent (chosen field) g.now t.now t2.now) depth (elements (chosen field) out.old)) out.new }
 {
-    let mut level = 0;
     let mut count = job::message_len(depth);
     let mut n = g.len();
     let mut off = 0;
-    while level < depth {
+    for level in 0..depth {
         let end = off + n;
         count /= 2;
         sweep(count, &t[off..end], &t2[off..end], out, field);
         off = end;
         n += n;
-        level += 1;
     }
 }

@@ -4,8 +4,10 @@
 --     Inputs         THE DEFINITIONS: below, judge_words (4), no_zero (5), no_equal (6); what they name: FirstWord, FirstZero, FirstEqual
 --     InputLaws      word_named, zero_named, equal_named: each is refused with a place exactly where that is the first
 --     FlagLaws       flags first: words_flagged, equal_flagged; one_word
+--     Ordered        ordered: the inputs in the code's own record
 pub mod Places
 pub mod PlaceLaws
 pub mod Inputs
 pub mod InputLaws
 pub mod FlagLaws
+pub mod Ordered

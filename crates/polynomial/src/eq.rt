@@ -32,10 +32,8 @@ pub fn eq(z: &[u32], x: &[u32], field: Field) -> Residue
     ensures { result.0 ≡ word (chosen field) (product (K (chosen field)) (elements (chosen field) z.now) (elements (chosen field) x.now)) }
 {
     let mut e = Residue::ONE;
-    let mut i = 0;
-    while i < z.len() {
+    for i in 0..z.len() {
         e = e.times(factor_at(i, z, x, field), field);
-        i += 1;
     }
     e
 }

@@ -6,7 +6,7 @@ ghost use Rattle.residue.specs.Chosen.{chosen};
 ghost use Rattle.polynomial.specs.Monomials.{Monomials, Extensible, Extended};
 
 use residue::Field;
-use words::{entry, scan};
+use words::entry;
 
 // How many variables are low, where there are as many: their monomials fill 64 words.
 pub const LOW: usize = 6;
@@ -16,10 +16,8 @@ fn extend(w: &mut [u32], size: usize, x: u32, field: Field)
     requires { Extensible (chosen field) size x w.old }
     ensures { Extended (chosen field) size x w.old w.new }
 {
-    let mut b = 0;
-    while b < size {
+    for b in 0..size {
         w[size + b] = entry::times(w[b], x, field);
-        b += 1;
     }
 }
 
@@ -28,13 +26,11 @@ pub fn fill(w: &mut [u32], z: &[u32], field: Field)
     requires { (length w.old ≡ 64) × Low (P (chosen field)) z.now }
     ensures { Monomials (chosen field) w.new z.now }
 {
-    let k = scan::shorter(z.len(), LOW);
+    let k = z.len().min(LOW);
     w[0] = 1;
     let mut size = 1;
-    let mut i = 0;
-    while i < k {
+    for i in 0..k {
         extend(w, size, z[i], field);
         size += size;
-        i += 1;
     }
 }

@@ -1,8 +1,17 @@
-// Lines of a label and numbers.
+// Lines of a label and numbers, and the parameters of a program's call.
 #![tactic(auto)]
 
-use job::{Answer, Refusal};
+ghost use Rattle.std.specs.Prelude.{◌≡◌};
+
+use job::{Parameters, Refusal, Reply};
 use std::io;
+
+// The depth, the rate and the words of a base message.
+pub fn parameters(depth: u32, rate: u32, k0: u32) -> Parameters
+    ensures { result ≡ record { depth = depth; rate = rate; k0 = k0 } }
+{
+    Parameters { depth, rate, k0 }
+}
 
 pub fn label(rt: &impl Print, text: &[u8]) -> io::Result<()> {
     rt.write_all(text)
@@ -31,26 +40,29 @@ pub fn words(rt: &impl Print, text: &[u8], s: &[u32]) -> io::Result<()> {
 }
 
 // A number and its places.
-pub fn places(rt: &impl Print, n: u32, first: u32, second: u32) -> io::Result<()> {
-    number(rt, n)?;
-    number(rt, first)?;
-    number(rt, second)?;
+pub fn reply(rt: &impl Print, text: &[u8], r: Reply) -> io::Result<()> {
+    label(rt, text)?;
+    number(rt, r.number)?;
+    number(rt, r.first)?;
+    number(rt, r.second)?;
     end(rt)
 }
 
 pub fn refusal(rt: &impl Print, text: &[u8], r: Refusal) -> io::Result<()> {
-    label(rt, text)?;
-    let n = job::numbers_of(r);
-    places(rt, n.number, n.first, n.second)
+    reply(rt, text, job::numbers_of(r))
 }
 
 // An answer's number and places.
-pub fn answer(rt: &impl Print, text: &[u8], a: Answer) -> io::Result<()> {
+pub fn answer(rt: &impl Print, text: &[u8], a: Result<(), Refusal>) -> io::Result<()> {
     match a {
-        Answer::Done => {
-            label(rt, text)?;
-            places(rt, 0, 0, 0)
+        Ok(()) => {
+            let done = Reply {
+                number: 0,
+                first: 0,
+                second: 0,
+            };
+            reply(rt, text, done)
         }
-        Answer::Refused(r) => refusal(rt, text, r),
+        Err(r) => refusal(rt, text, r),
     }
 }

@@ -11,7 +11,7 @@ use Rattle.job.specs.Outcome.{Outcome, refused, done}
 use Rattle.job.specs.declared.Input.TheVariants.{Block}
 use Rattle.job.specs.OutcomeLaws.{after_refused, after_done, refuses, holds_demand}
 use Rattle.residue.specs.declared.Residue.{Residue}
-use Rattle.residue.specs.declared.Parsed.TheVariants.{Residue as Is, TooLarge}
+use Rattle.std.specs.Prelude.{Option, Some, None}
 use Rattle.residue.specs.Elements.{parsed, parsed_by}
 use Rattle.places.specs.FlagLaws.{one_word}
 use Rattle.clearance.specs.Clearances.{clearance_of, border, Meaning, meaning, free, contact, overlap}
@@ -26,17 +26,18 @@ pub record Same (p w v : ℕ) : Type 0 where
 module _ (𝓕 : PrimeField) where
   open 𝓕 use {modulus as P, above}
 
-  pub no_residue : (w : ℕ) → TooLarge ≡ parsed 𝓕 w → refused (4, 0, 4) ≡ reading 𝓕 w
-  no_residue w e = go (ltb w P) refl e
+  pub no_residue : (w : ℕ) (o : Option Residue) → ((r : Residue) → o ≡ Some r → ⊥) → o ≡ parsed 𝓕 w → refused (4, 0, 4) ≡ reading 𝓕 w
+  no_residue w (Some r) k e = absurd (k r refl)
+  no_residue w None k e = go (ltb w P) refl e
     where
-      go : (b : Bool) → ltb w P ≡ b → TooLarge ≡ parsed_by 𝓕 b w → refused (4, 0, 4) ≡ reading 𝓕 w
+      go : (b : Bool) → ltb w P ≡ b → None ≡ parsed_by 𝓕 b w → refused (4, 0, 4) ≡ reading 𝓕 w
       go true p q = absurd (let z : ◌≡◌ {A = ℕ} 0 1 = cc in omega arith)
       go false p q = after_refused _ (refuses _ p ∙ sym (one_word 𝓕 Block w))
 
-  pub a_residue : (w : ℕ) (r : Residue) → Is r ≡ parsed 𝓕 w → Same P w r.0
+  pub a_residue : (w : ℕ) (r : Residue) → Some r ≡ parsed 𝓕 w → Same P w r.0
   a_residue w r e = go (ltb w P) refl e
     where
-      go : (b : Bool) → ltb w P ≡ b → Is r ≡ parsed_by 𝓕 b w → Same P w r.0
+      go : (b : Bool) → ltb w P ≡ b → Some r ≡ parsed_by 𝓕 b w → Same P w r.0
       go true p q = let s : r ≡ record { 0 = w } = cc in record { is = ap (λ x. x.0) s; low = ltb-true w P p }
       go false p q = absurd (let z : ◌≡◌ {A = ℕ} 0 1 = cc in omega arith)
 

@@ -1,23 +1,21 @@
 -- What the exported functions answer and leave: the jobs' own contracts, with the answer as three numbers. Definitions only. Assumes nothing.
-use Rattle.std.specs.Prelude.{◌≡◌, Bool, true, false, List, ℕ, ℤ}
+use Rattle.std.specs.Prelude.{◌≡◌, Bool, true, false, List, ℕ, ℤ, Result}
 use Rattle.algebra.specs.Words.{PrimeField}
-use Rattle.job.specs.Outcome.{Numbers, Outcome, refused, done, outcome}
-use Rattle.job.specs.declared.Answer.{Answer}
+use Rattle.job.specs.declared.Refusal.{Refusal}
+use Rattle.job.specs.declared.Reply.{Reply}
+use Rattle.job.specs.Outcome.{Numbers, Outcome, Answer, refused, done, outcome}
 use Rattle.residue.specs.Chosen.{chosen}
 use Rattle.residue.specs.declared.Field.{Field as Choice}
 use Rattle.residue.specs.declared.Field.TheVariants.{First, Second}
 use Rattle.encode.specs.Encoding.{Encoded}
 use Rattle.decode.specs.Decoding.{Decoded}
 use Rattle.fold.specs.Job.{Folded}
-use Rattle.open.specs.Writing.{written_outcome as wrote, Wrote}
-use Rattle.open.specs.declared.Written.{Written}
-use Rattle.evaluate.specs.Evaluation.{evaluation_outcome as evaluated, evaluation}
-use Rattle.evaluate.specs.declared.Evaluation.{Evaluation}
+use Rattle.open.specs.Writing.{Wrote}
+use Rattle.evaluate.specs.Evaluation.{evaluation}
 use Rattle.clearance.specs.Clearances.{Meaning, free, contact, overlap}
 use Rattle.coefficients.specs.Job.{ToCoefficients}
 use Rattle.table.specs.Job.{ToTable}
 use Rattle.fill_roots.specs.Filling.{RootsFilled}
-use Rattle.reply.specs.declared.answer.Reply.{Reply}
 use Rattle.reply.specs.declared.reading.ReadingReply.{ReadingReply}
 
 -- the field that a call names: false is the integers modulo 2147483647, true those modulo 2013265921
@@ -82,16 +80,16 @@ module _ (𝓕 : PrimeField) where
     pub result : Folded 𝓕 level c k t t' w a old job out
 
   pub record EvaluateCall (d k : ℕ) (m z : List ℕ) (old : ℕ) (r : Reply) (value : ℕ) : Type 0 where
-    pub job : Evaluation
-    pub answer : r ≡ reply (evaluated job)
-    pub result : evaluated job ≡ evaluation 𝓕 d k m z
-    pub single : value ≡ given (evaluated job) old
+    pub job : Result ℕ Refusal
+    pub answer : r ≡ reply (outcome job)
+    pub result : outcome job ≡ evaluation 𝓕 d k m z
+    pub single : value ≡ given (outcome job) old
 
   pub record WriteCall (d c k : ℕ) (g t t' m z r old space : List ℕ) (value : ℕ) (a : Reply) (out work : List ℕ) (value' : ℕ) : Type 0 where
-    pub job : Written
-    pub answer : a ≡ reply (wrote job)
+    pub job : Result ℕ Refusal
+    pub answer : a ≡ reply (outcome job)
     pub result : Wrote 𝓕 d c k g t t' m z r old space job out work
-    pub single : value' ≡ given (wrote job) value
+    pub single : value' ≡ given (outcome job) value
 
 -- filling names no field: it is of the second one
 pub record FillCall (d c k : ℕ) (g t t' : List ℕ) (r : Reply) (g₁ t₁ t₁' : List ℕ) : Type 0 where

@@ -3,36 +3,27 @@ ghost use Rattle.std.specs.Prelude.{◌≡◌};
 ghost use Rattle.job.specs.Outcome.{due, outcome};
 ghost use Rattle.reply.specs.Replies.{triple, reply};
 
-use job::{Answer, Refusal};
+use job::Refusal;
+pub use job::Reply;
 
-#[repr(C)]
-#[derive(Clone, Copy)]
-pub struct Reply {
-    pub number: u32,
-    pub first: u32,
-    pub second: u32,
-}
+// A job that is done, or a verdict that accepts.
+pub const DONE: Reply = Reply {
+    number: 0,
+    first: 0,
+    second: 0,
+};
 
 pub fn refused(refusal: Refusal) -> Reply
     ensures { result ≡ triple (due refusal) }
 {
-    let n = job::numbers_of(refusal);
-    Reply {
-        number: n.number,
-        first: n.first,
-        second: n.second,
-    }
+    job::numbers_of(refusal)
 }
 
-pub fn plain(answer: Answer) -> Reply
+pub fn plain(answer: Result<(), Refusal>) -> Reply
     ensures { result ≡ reply (outcome answer) }
 {
     match answer {
-        Answer::Done => Reply {
-            number: 0,
-            first: 0,
-            second: 0,
-        },
-        Answer::Refused(r) => refused(r),
+        Ok(()) => DONE,
+        Err(r) => refused(r),
     }
 }

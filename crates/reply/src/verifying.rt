@@ -11,41 +11,25 @@ use verify::{Failure, Outcome, Verdict};
 fn failed(f: Failure) -> Reply
     ensures { result ≡ triple (numbers (record { outcome = Outcome.Rejected f })) }
 {
-    match f {
-        Failure::Sum(i) => Reply {
-            number: 20,
-            first: i,
-            second: 0,
-        },
-        Failure::Final => Reply {
-            number: 21,
-            first: 0,
-            second: 0,
-        },
-        Failure::Base(j) => Reply {
-            number: 22,
-            first: j,
-            second: 0,
-        },
-        Failure::Fold(q, i) => Reply {
-            number: 23,
-            first: q,
-            second: i,
-        },
+    let (number, first, second) = match f {
+        Failure::Sum(i) => (20, i, 0),
+        Failure::Final => (21, 0, 0),
+        Failure::Base(j) => (22, j, 0),
+        Failure::Fold(q, i) => (23, q, i),
+    };
+    Reply {
+        number,
+        first,
+        second,
     }
 }
 
 pub fn told(v: Verdict) -> Reply
     ensures { result ≡ triple (numbers v) }
 {
-    let o = v.outcome;
-    match o {
-        Outcome::Accepted => Reply {
-            number: 0,
-            first: 0,
-            second: 0,
-        },
+    match v.outcome {
+        Outcome::Accepted => answer::DONE,
         Outcome::Rejected(f) => failed(f),
-        Outcome::Refused(n) => answer::refused(n),
+        Outcome::Refused(r) => answer::refused(r),
     }
 }

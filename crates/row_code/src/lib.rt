@@ -41,10 +41,8 @@ fn scale_loose(a: Residue, row: &[u32], out: &mut [u32], field: Field)
     requires { Low (chosen field) a × (LowWords (P (chosen field)) row.now) × (length out.old ≡ length row.now) }
     ensures { Scaled (chosen field) (el (chosen field) (scale field)) (times (chosen field) (elem (chosen field) a) (elements (chosen field) row.now)) out.new }
 {
-    let mut i = 0;
-    while i < row.len() {
+    for i in 0..row.len() {
         out[i] = Residue::times_loose(row[i], a, field);
-        i += 1;
     }
 }
 
@@ -54,17 +52,16 @@ fn spread_in(m: &[u32], row: &[u32], out: &mut [u32], field: Field)
     ensures { Scaled (chosen field) (el (chosen field) (scale field)) (spreads (F (chosen field)) (elements (chosen field) row.now) (elements (chosen field) m.now)) out.new }
 {
     let c = row.len();
-    let mut i = 0;
     let mut b = 0;
-    while i < m.len() {
+    for i in 0..m.len() {
         let e = b + c;
         scale_loose(Residue::new(m[i], field), row, &mut out[b..e], field);
         b = e;
-        i += 1;
     }
 }
 
-// The same, with the field as a constant: the compiler makes loops for each field.
+// The same, with the field as a constant: the compiler makes loops for each field. A function of its own, since of a slice that a closure
+// writes nothing is known afterwards.
 fn spread_loose(m: &[u32], row: &[u32], out: &mut [u32], field: Field)
     requires { SpreadInput (chosen field) m.now row.now out.old }
     ensures { Scaled (chosen field) (el (chosen field) (scale field)) (spreads (F (chosen field)) (elements (chosen field) row.now) (elements (chosen field) m.now)) out.new }

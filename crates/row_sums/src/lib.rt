@@ -34,10 +34,8 @@ fn two_raised(a: Residue, b: Residue, g: &[u32], h: &[u32], out: &mut [u32], fie
     requires { TwoLent (chosen field) a.0 b.0 g.now h.now out.old }
     ensures { out.new ≡ two_scaled (chosen field) (lowered field a.0) (lowered field b.0) g.now h.now }
 {
-    let mut i = 0;
-    while i < out.len() {
+    for i in 0..out.len() {
         out[i] = sum_two(0, a, g[i], b, h[i], field);
-        i += 1;
     }
 }
 
@@ -56,10 +54,8 @@ fn two_more(c: Residue, d: Residue, u: &[u32], v: &[u32], out: &mut [u32], field
     requires { MoreLent (chosen field) c.0 d.0 u.now v.now out.old }
     ensures { out.new ≡ added_scaled (chosen field) (lowered field d.0) v.now (added_scaled (chosen field) (lowered field c.0) u.now (map (lowered field) out.old)) }
 {
-    let mut i = 0;
-    while i < out.len() {
+    for i in 0..out.len() {
         out[i] = sum_two(out[i], c, u[i], d, v[i], field);
-        i += 1;
     }
 }
 

@@ -1,13 +1,14 @@
 -- Bytes stored in a buffer. Assumes nothing.
 use mathlib.Core.Path.{◌≡◌, refl, sym, ap, ap₂, ◌∙◌}
-use mathlib.Core.List.{List, [], ◌∷◌, ◌++◌, flat_map, append_assoc, append-nil}
-use Prim.Native.Nat.{ℕ, suc, ◌+◌, ◌*◌, ◌-◌, ◌<◌, ◌≤◌}
+use mathlib.Core.List.{List, [], ◌∷◌, ◌++◌, flat_map, append-nil}
+use Prim.Native.Nat.{ℕ, suc, ◌+◌, ◌*◌, ◌-◌, ◌%◌, ◌^◌, ◌<◌}
+use Rattle.std.specs.Int.{w64, to_be_bytes}
 use native.Mathlib.Numerals.{add-one}
 use native.Mathlib.Omega.{arith}
-use lib.ListN.{length, get_or, take, drop, set, replicate, length-append, length-replicate, replicate-append-replicate, drop_of_length-le}
-use lib.Seq.{paste, sets-eq, take-suc, take_all, take-length, take_at, drop_at, set_at, drop-append-add, drop-drop, length-take-le}
+use lib.ListN.{length, get_or, take, drop, set, replicate, length-replicate, replicate-append-replicate, drop_of_length-le}
+use lib.Seq.{take-suc, take_all, take_at, drop_at, set_at, drop-append-add, drop-drop, length-take-le}
 use Rattle.algebra.specs.Lists.{flat_map_append, length_flat_map}
-use Rattle.sha256.specs.Padding.{bytes, all_bytes}
+use Rattle.sha256.specs.Padding.{bytes, all_bytes, length_words}
 
 length_bytes : (x : ℕ) → length (bytes x) ≡ 4
 unfolding bytes
@@ -16,15 +17,6 @@ length_bytes x = refl
 pub length_all : (l : List ℕ) → length (all_bytes l) ≡ 4 * length l
 unfolding all_bytes
 length_all l = length_flat_map bytes 4 length_bytes l ∙ omega arith
-
--- four stores in a row
-pub four_stored : (o : List ℕ) (i a b c d : ℕ) → i + 4 ≤ length o
-    → set (set (set (set o i a) (i + 1) b) (i + 2) c) (i + 3) d ≡ take i o ++ (a ∷ b ∷ c ∷ d ∷ []) ++ drop (i + 4) o
-four_stored o i a b c d h =
-    let one : i + 1 ≡ suc i = omega arith in
-    let two : i + 2 ≡ suc (suc i) = omega arith in
-    let three : i + 3 ≡ suc (suc (suc i)) = omega arith in
-    rw (one, two, three) (sets-eq (a ∷ b ∷ c ∷ d ∷ []) o i h)
 
 -- all bytes of words, one word more
 all_snoc : (l : List ℕ) (x : ℕ) → all_bytes (l ++ (x ∷ [])) ≡ all_bytes l ++ bytes x
@@ -53,28 +45,22 @@ front_turn w o i h p q =
 pub front_end : (w o : List ℕ) (i : ℕ) {out : List ℕ} → length w ≡ i → length o ≡ 4 * i → out ≡ all_bytes (take i w) ++ drop (4 * i) o → out ≡ all_bytes w
 front_end w o i d e p = p ∙ ap₂ (λ x y. all_bytes x ++ y) (take_all i w (omega arith)) (drop_of_length-le o {i = 4 * i} (omega arith)) ∙ append-nil (all_bytes w)
 
--- two words in a row
-pub two_words : (o : List ℕ) (i x y : ℕ) {p q : List ℕ} → i + 8 ≤ length o → p ≡ take i o ++ bytes x ++ drop (i + 4) o
-    → q ≡ take (i + 4) p ++ bytes y ++ drop (i + 4 + 4) p → q ≡ take i o ++ all_bytes (x ∷ y ∷ []) ++ drop (i + 8) o
-unfolding all_bytes flat_map
-two_words o i x y h e f =
-    let b = length_bytes x in
-    let t = length-take-le i o (omega arith) in
-    let long : length (take i o ++ bytes x) ≡ i + 4 = length-append (take i o) (bytes x) ∙ omega arith in
-    let next : i + 4 + 4 ≡ i + 8 = omega arith in
-    let both : take i o ++ bytes x ++ bytes y ≡ take i o ++ (bytes x ++ (bytes y ++ [])) =
-    append_assoc (take i o) (bytes x) (bytes y) ∙ ap (λ r. take i o ++ (bytes x ++ r)) (sym (append-nil (bytes y))) in
-    word_behind (take i o ++ bytes x) o (i + 4) y long e f ∙ ap₂ (λ u k. u ++ drop k o) both next
+-- the bytes of a length in bits, its low 64 bits
+pub eight_bytes : (n : ℕ) {l : List ℕ} → l ≡ to_be_bytes w64 (n * 8 % 2 ^ 64) → l ≡ all_bytes (length_words (8 * n))
+unfolding bytes all_bytes flat_map
+eight_bytes n e =
+    e
+    ∙ ap₂ ◌∷◌ (omega arith) (ap₂ ◌∷◌ (omega arith) (ap₂ ◌∷◌ (omega arith) (ap₂ ◌∷◌ (omega arith)
+    (ap₂ ◌∷◌ (omega arith) (ap₂ ◌∷◌ (omega arith) (ap₂ ◌∷◌ (omega arith) (ap₂ ◌∷◌ (omega arith) refl)))))))
 
 -- a list copied to the front of zeros, and a byte behind it
-pub byte_behind : (s : List ℕ) (v : ℕ) {out : List ℕ} → length s < 128 → out ≡ paste (replicate 128 0) 0 s (length s)
-    → set out (length s) v ≡ s ++ (v ∷ replicate (127 - length s) 0)
+pub byte_behind : (s : List ℕ) (v : ℕ) {l : List ℕ} → length s < 128 → l ≡ s
+    → set (l ++ drop (length s) (replicate 128 0)) (length s) v ≡ s ++ (v ∷ replicate (127 - length s) 0)
 byte_behind s v h p =
     let n = length s in
     let zs : List ℕ = replicate (127 - n) 0 in
     let parts : 128 ≡ n + suc (127 - n) = omega arith in
-    let long : length (replicate {A = ℕ} n 0) ≡ 0 + n = length-replicate {A = ℕ} n 0 ∙ omega arith in
-    let rest : drop (0 + n) (replicate 128 0) ≡ 0 ∷ zs =
-    ap (λ k. drop (0 + n) (replicate k 0)) parts ∙ ap (drop (0 + n)) (sym (replicate-append-replicate n (suc (127 - n)) 0))
-    ∙ drop_at (replicate n 0) (0 ∷ zs) (0 + n) long in
-    ap (λ l. set l n v) (p ∙ ap₂ ◌++◌ (take-length s) rest) ∙ set_at s 0 zs v n refl
+    let rest : drop n (replicate 128 0) ≡ 0 ∷ zs =
+    ap (λ k. drop n (replicate k 0)) parts ∙ ap (drop n) (sym (replicate-append-replicate n (suc (127 - n)) 0))
+    ∙ drop_at (replicate n 0) (0 ∷ zs) n (length-replicate n 0) in
+    ap (λ l. set l n v) (ap₂ ◌++◌ p rest) ∙ set_at s 0 zs v n refl

@@ -3,7 +3,6 @@ ghost use Rattle.std.specs.Prelude.{◌≡◌, ◌+◌, ◌-◌, ◌*◌, ◌/�
 ghost use Rattle.sha256.specs.Padding.{all_bytes, length_words, padded};
 ghost use Rattle.sha256.specs.Hash.{hashed};
 
-use crate::bytes;
 use sha256_block::State;
 
 // The hash value after the blocks that lie in the message.
@@ -12,12 +11,8 @@ pub fn whole_blocks(m: &[u8]) -> State
 {
     let mut s = sha256_block::initial();
     let n = m.len() / 64;
-    let mut i = 0;
-    while i < n {
-        let at = 64 * i;
-        let end = at + 64;
-        s = sha256_block::compress(s, &m[at..end]);
-        i += 1;
+    for i in 0..n {
+        s = sha256_block::compress(s, &m[64 * i..64 * i + 64]);
     }
     s
 }
@@ -28,20 +23,18 @@ fn begun(rest: &[u8]) -> [u8; 128]
     ensures { result ≡ rest.now ++ (0x80 ∷ replicate (127 - length rest.now) 0) }
 {
     let mut out = [0u8; 128];
-    bytes::copy(rest, &mut out, 0);
+    out[..rest.len()].copy_from_slice(rest);
     out[rest.len()] = 0x80;
     out
 }
 
-// The length in bits of a message of n bytes, in the eight bytes from a place on.
-fn with_length(out: [u8; 128], at: usize, n: usize) -> [u8; 128]
+// The length in bits of a message of n bytes, of which the low 64 bits count, in the eight bytes from a place on.
+fn with_length(block: [u8; 128], at: usize, n: usize) -> [u8; 128]
     requires { at + 8 ≤ 128 }
-    ensures { result ≡ take at out ++ all_bytes (length_words (8 * n)) ++ drop (at + 8) out }
+    ensures { result ≡ take at block ++ all_bytes (length_words (8 * n)) ++ drop (at + 8) block }
 {
-    let mut b = out;
-    // 8 * n may not fit 64 bits: its words come from n / 2^29 and n % 2^29.
-    bytes::put_word((n / 536870912 % 4294967296) as u32, &mut b, at);
-    bytes::put_word((n % 536870912 * 8) as u32, &mut b, at + 4);
+    let mut b = block;
+    b[at..at + 8].copy_from_slice(&n.wrapping_mul(8).to_be_bytes());
     b
 }
 

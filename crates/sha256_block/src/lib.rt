@@ -10,7 +10,7 @@ mod rounds;
 mod schedule;
 
 // Eight words: the working variables, or a hash value.
-#[derive(Clone, Copy)]
+#[derive(Clone, Copy, Debug, PartialEq, Eq)]
 pub struct State {
     pub a: u32,
     pub b: u32,

@@ -18,6 +18,7 @@ fn second(s: State) -> u32
     words::plus(words::big_sigma0(s.a), words::maj(s.a, s.b, s.c))
 }
 
+#[tactic(auto, unfolding(crate::specs::Compression::round))]
 fn round(s: State, k: u32, w: u32) -> State
     ensures { result ≡ round s k w }
 {
@@ -41,15 +42,15 @@ pub fn rounds(s: State, w: &[u32; 64]) -> State
     // A constant that is indexed in a loop is copied at every turn; a local is not. Two rounds a turn run a little faster than one.
     let k = K;
     let mut r = s;
-    let mut t = 0;
-    while t < 64 {
+    for i in 0..32 {
+        let t = 2 * i;
         r = round(r, k[t], w[t]);
         r = round(r, k[t + 1], w[t + 1]);
-        t += 2;
     }
     r
 }
 
+#[tactic(auto, unfolding(crate::specs::Compression::added))]
 pub fn added(r: State, s: State) -> State
     ensures { result ≡ added r s }
 {

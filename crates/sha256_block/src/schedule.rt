@@ -7,6 +7,7 @@ ghost use Rattle.sha256_block.specs.Compression.{next, W};
 use sha256_words as words;
 
 // A word from those before it.
+#[tactic(auto, unfolding(crate::specs::Compression::next))]
 fn next_word(w: &[u32; 64], t: usize) -> u32
     requires { (16 ≤ t) × (t < 64) }
     ensures { result ≡ next (λ j. get_or w.now j 0) t }
@@ -22,10 +23,8 @@ fn loaded(b: &[u8]) -> [u32; 64]
     ensures { Filled 16 (row 64 (W b.now)) (replicate 64 0) result }
 {
     let mut w = [0u32; 64];
-    let mut t = 0;
-    while t < 16 {
+    for t in 0..16 {
         w[t] = words::word_at(b, 4 * t);
-        t += 1;
     }
     w
 }
@@ -35,10 +34,8 @@ pub fn schedule(b: &[u8]) -> [u32; 64]
     ensures { result ≡ row 64 (W b.now) }
 {
     let mut w = loaded(b);
-    let mut t = 16;
-    while t < 64 {
+    for t in 16..64 {
         w[t] = next_word(&w, t);
-        t += 1;
     }
     w
 }

@@ -16,10 +16,9 @@ fn hex(rt: &impl Print, s: &[u8]) -> io::Result<()> {
 }
 
 fn line(rt: &impl Print, label: &[u8], d: Digest) -> io::Result<()> {
-    let b = d.bytes;
     print::label(rt, label)?;
     print::label(rt, b" ")?;
-    hex(rt, &b)?;
+    hex(rt, &d.bytes)?;
     print::end(rt)
 }
 

@@ -1,29 +1,32 @@
 // Words of 32 bits as SHA-256 uses them (FIPS 180-4): sums, rotations, the six functions of 4.1.2, and the word of four bytes.
 #![tactic(auto)]
 
-ghost use Rattle.std.specs.Prelude.{◌≡◌, ◌+◌, ◌*◌, ◌^◌, ◌<◌, ◌≤◌, length};
+ghost use Rattle.std.specs.Prelude.{◌≡◌, ◌+◌, ◌<◌, ◌≤◌, length};
 ghost use Rattle.sha256_words.specs.Words.{◌⊞◌, ROTR, Ch, Maj, Σ0, Σ1, σ0, σ1, word_at};
 
 // Addition modulo 2^32.
 pub fn plus(x: u32, y: u32) -> u32
     ensures { result ≡ x ⊞ y }
 {
-    ((x as u64 + y as u64) % 4294967296) as u32
+    x.wrapping_add(y)
 }
 
+#[tactic(auto, unfolding(crate::specs::Words::ROTR))]
 pub fn rotr(n: u32, x: u32) -> u32
     requires { (0 < n) × (n < 32) }
     ensures { result ≡ ROTR n x }
 {
-    x >> n | x << (32 - n)
+    x.rotate_right(n)
 }
 
+#[tactic(auto, unfolding(crate::specs::Words::Ch, crate::specs::Words::complement))]
 pub fn ch(x: u32, y: u32, z: u32) -> u32
     ensures { result ≡ Ch x y z }
 {
     x & y ^ !x & z
 }
 
+#[tactic(auto, unfolding(crate::specs::Words::Maj))]
 pub fn maj(x: u32, y: u32, z: u32) -> u32
     ensures { result ≡ Maj x y z }
 {
@@ -58,26 +61,23 @@ pub fn small_sigma1(x: u32) -> u32
 pub fn sum4(x: u32, y: u32, z: u32, u: u32) -> u32
     ensures { result ≡ x ⊞ y ⊞ z ⊞ u }
 {
-    ((x as u64 + y as u64 + z as u64 + u as u64) % 4294967296) as u32
+    x.wrapping_add(y).wrapping_add(z).wrapping_add(u)
 }
 
 pub fn sum5(x: u32, y: u32, z: u32, u: u32, v: u32) -> u32
     ensures { result ≡ x ⊞ y ⊞ z ⊞ u ⊞ v }
 {
-    ((x as u64 + y as u64 + z as u64 + u as u64 + v as u64) % 4294967296) as u32
+    x.wrapping_add(y)
+        .wrapping_add(z)
+        .wrapping_add(u)
+        .wrapping_add(v)
 }
 
-// The word of four bytes, the highest first.
-fn join(x: u8, y: u8, z: u8, u: u8) -> u32
-    ensures { result ≡ x * 2 ^ 24 + y * 2 ^ 16 + z * 2 ^ 8 + u }
-{
-    x as u32 * 16777216 + y as u32 * 65536 + z as u32 * 256 + u as u32
-}
-
-// The word at a place.
+// The word at a place, the highest byte first.
+#[tactic(auto, unfolding(crate::specs::Words::word_at))]
 pub fn word_at(b: &[u8], i: usize) -> u32
     requires { i + 4 ≤ length b.now }
     ensures { result ≡ word_at b.now i }
 {
-    join(b[i], b[i + 1], b[i + 2], b[i + 3])
+    u32::from_be_bytes([b[i], b[i + 1], b[i + 2], b[i + 3]])
 }

@@ -13,10 +13,8 @@ pub fn fold(a: Residue, m: &mut [u32], field: Field)
     ensures { m.new ≡ folded_front (chosen field) (elem (chosen field) a) m.old }
 {
     let half = m.len() / 2;
-    let mut j = 0;
-    while j < half {
+    for j in 0..half {
         let k = half + j;
         m[j] = entry::plus_scaled(m[j], a, m[k], field);
-        j += 1;
     }
 }

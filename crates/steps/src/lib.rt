@@ -1,8 +1,8 @@
-// What a writer of openings does whatever a base message is: begin, send a round, fold what is left, weigh.
+// What a writer of openings does whatever a base message is: write a round, fold what is left, weigh.
 // What is left of the message lies in the front of the work buffer. The weight is eq of the variables whose challenges are put in.
 #![tactic(auto)]
 
-ghost use Rattle.std.specs.Prelude.{◌≡◌, ◌++◌, suc, ◌≤◌, length, drop};
+ghost use Rattle.std.specs.Prelude.{◌≡◌, suc, length};
 ghost use Rattle.residue.specs.Chosen.{chosen};
 ghost use Rattle.algebra.specs.Lists.{put};
 ghost use Rattle.basefold.specs.Layout.{round_at};
@@ -14,17 +14,8 @@ pub mod fold;
 mod send;
 pub mod weigh;
 
-// At first all of the message is left.
-pub fn begin(message: &[u32], work: &mut [u32])
-    requires { length message.now ≤ length work.old }
-    ensures { work.new ≡ message.now ++ drop (length message.now) work.old }
-{
-    let n = message.len();
-    words::copy(message, &mut work[..n]);
-}
-
 // h_(i+1) into its place.
-pub fn give_round(
+pub fn write_round(
     depth: u32,
     i: u32,
     w: Residue,
@@ -41,5 +32,5 @@ pub fn give_round(
     let n = job::message_len(next);
     let at = layout::round_at(depth, next);
     let end = at + 3;
-    send::send(w, &z[..k], &work[..n], &mut opening[at..end], field);
+    send::round_values(w, &z[..k], &work[..n], &mut opening[at..end], field);
 }

@@ -24,25 +24,25 @@ fn value_at(
 }
 
 #[derive(Clone, Copy)]
-pub struct Ends {
+pub struct Halves {
     pub left: Residue,
     pub right: Residue,
 }
 
 // The values of both halves of m at the variables below the top one.
-fn halves(z: &[u32], m: &[u32], field: Field) -> Ends
+fn half_values(z: &[u32], m: &[u32], field: Field) -> Halves
     requires { HalvesInput (chosen field) z.now m.now }
     ensures { HalfValues (chosen field) (elements (chosen field) z.now) (elements (chosen field) m.now) result.left result.right }
 {
     let top = z.len() - 1;
     let half = m.len() / 2;
-    Ends {
+    Halves {
         left: polynomial::value(&m[..half], &z[..top], field),
         right: polynomial::value(&m[half..], &z[..top], field),
     }
 }
 
-fn three(a: Residue, b: Residue, c: Residue, out: &mut [u32])
+fn write_three(a: Residue, b: Residue, c: Residue, out: &mut [u32])
     requires { length out.old ≡ 3 }
     ensures { out.new ≡ a.0 ∷ b.0 ∷ c.0 ∷ [] }
 {
@@ -52,16 +52,14 @@ fn three(a: Residue, b: Residue, c: Residue, out: &mut [u32])
 }
 
 // w times h of what is left, m, at its point z.
-pub fn send(w: Residue, z: &[u32], m: &[u32], out: &mut [u32], field: Field)
+pub fn round_values(w: Residue, z: &[u32], m: &[u32], out: &mut [u32], field: Field)
     requires { SendInput (chosen field) w z.now m.now (length out.old) }
     ensures { out.new ≡ to_words (chosen field) (values (chosen field) (round_of (chosen field) (elem (chosen field) w) (elements (chosen field) m.now) (elements (chosen field) z.now))) }
 {
-    let e = halves(z, m, field);
-    let left = e.left;
-    let right = e.right;
+    let Halves { left, right } = half_values(z, m, field);
     let top = Residue::new(z[z.len() - 1], field);
     let at_0 = value_at(w, top, left, right, Residue::ZERO, field);
     let at_1 = value_at(w, top, left, right, Residue::ONE, field);
     let at_2 = value_at(w, top, left, right, Residue::new(2, field), field);
-    three(at_0, at_1, at_2, out);
+    write_three(at_0, at_1, at_2, out);
 }

@@ -9,7 +9,7 @@ use Rattle.algebra.specs.Words.{PrimeField}
 use Rattle.algebra.specs.WordLists.{Low, elements, to_words, length_elements, length_words_lem, low_words}
 use Rattle.multilinear.specs.Table.{table, length_table}
 use Rattle.job.specs.declared.Refusal.{Refusal}
-use Rattle.job.specs.declared.Answer.TheVariants.{Done, Refused}
+use Rattle.std.specs.Prelude.{Ok, Err}
 use Rattle.job.specs.Outcome.{refused, done, due, kept}
 use Rattle.clearance.specs.Clearances.{clearance_of}
 use Rattle.table_length.specs.Depth.{is_power, exponent}
@@ -50,14 +50,14 @@ module _ (𝓕 : PrimeField) where
   -- the job, done and refused
   module _ (k : ℕ) (m : List ℕ) (old : List ℤ) (work : List ℕ) where
     pub tables_done : (new : List ℤ) (left : List ℕ) → done tt ≡ judge_message 𝓕 k m (length old) (length work)
-        → new ≡ table_of 𝓕 m → left ≡ replicate (length work) 0 → Tables 𝓕 k m old new work left Done
+        → new ≡ table_of 𝓕 m → left ≡ replicate (length work) 0 → Tables 𝓕 k m old new work left (Ok tt)
     tables_done new left e p q = record {
       answer = e;
       clearances = p ∙ ap (λ o. kept o old (table_of 𝓕 m)) e;
       cleared = q ∙ ap (λ o. kept o work (replicate (length work) 0)) e;
     }
 
-    pub tables_refused : (r : Refusal) → refused (due r) ≡ judge_message 𝓕 k m (length old) (length work) → Tables 𝓕 k m old old work work (Refused r)
+    pub tables_refused : (r : Refusal) → refused (due r) ≡ judge_message 𝓕 k m (length old) (length work) → Tables 𝓕 k m old old work work (Err r)
     tables_refused r e = record {
       answer = e;
       clearances = ap (λ o. kept o old (table_of 𝓕 m)) e;

@@ -3,7 +3,7 @@ use Rattle.std.specs.Prelude.{◌≡◌, ◌&&◌, List, [], ◌∷◌, map, ℕ
 use Rattle.algebra.specs.Words.{PrimeField}
 use Rattle.algebra.specs.WordLists.{elements, to_words}
 use Rattle.multilinear.specs.Table.{table}
-use Rattle.job.specs.declared.Answer.{Answer}
+use Rattle.job.specs.Outcome.{Answer}
 use Rattle.job.specs.declared.Input.TheVariants.{Block}
 use Rattle.job.specs.Outcome.{Outcome, require, ◌⨾◌, outcome, kept}
 use Rattle.job.specs.Sizes.{k0_ok}

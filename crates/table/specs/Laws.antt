@@ -9,7 +9,7 @@ use Rattle.algebra.specs.Tests.{all, and_both}
 use Rattle.algebra.specs.Words.{PrimeField}
 use Rattle.algebra.specs.WordLists.{Low, elements, to_words, length_words_lem}
 use Rattle.multilinear.specs.Table.{table, length_table}
-use Rattle.job.specs.declared.Answer.{Answer}
+use Rattle.job.specs.Outcome.{Answer}
 use Rattle.job.specs.Outcome.{done, outcome, kept}
 use Rattle.words.specs.ScanLaws.{all_below_lem, below_all}
 use Rattle.clearance.specs.Clearances.{in_range, residue_of, clearance_of}

@@ -10,7 +10,7 @@ ghost use Rattle.table_length.specs.Depth.{is_power};
 ghost use Rattle.table.specs.Job.{judge_message, table_of, ToTable};
 
 use clearance::slices;
-use job::{Answer, Parameters, Refusal, sizes};
+use job::{Parameters, Refusal, sizes};
 use places::inputs;
 use residue::Field;
 use transform::Way;
@@ -18,19 +18,12 @@ use words::scan;
 
 // The message counts as the block. One of its words is looked for only where a scan has found that there is one, and where the length has shown that
 // each has an index. Depth and rate are not asked.
-fn judge(p: Parameters, m: &[u32], table: usize, work: usize, field: Field) -> Answer
+fn judge(p: Parameters, m: &[u32], table: usize, work: usize, field: Field) -> Result<(), Refusal>
     ensures { outcome result ≡ judge_message (chosen field) p.k0 m.now table work }
 {
-    if !table_length::table_ok(p, m.len()) {
-        return Answer::Refused(Refusal::Depth);
-    }
-    if !sizes::k0_ok(p) {
-        return Answer::Refused(Refusal::BaseWords);
-    }
-    let same = (table == m.len()) & (work == m.len());
-    if !same {
-        return Answer::Refused(Refusal::Length);
-    }
+    job::require(table_length::table_ok(p, m.len()), Refusal::Depth)?;
+    job::require(sizes::k0_ok(p), Refusal::BaseWords)?;
+    job::require(table == m.len() && work == m.len(), Refusal::Length)?;
     let below = scan::all_below(m, field);
     let none = &m[..0];
     inputs::judge_without_row(below, none, none, m, none, none, field)
@@ -53,15 +46,10 @@ pub fn coefficients_to_table(
     clearances: &mut [i32],
     work: &mut [u32],
     field: Field,
-) -> Answer
+) -> Result<(), Refusal>
     ensures { ToTable (chosen field) p.k0 message.now clearances.old clearances.new work.old work.new result }
 {
-    let verdict = judge(p, message, clearances.len(), work.len(), field);
-    match verdict {
-        Answer::Done => {
-            find(message, clearances, work, field);
-            Answer::Done
-        }
-        Answer::Refused(r) => Answer::Refused(r),
-    }
+    judge(p, message, clearances.len(), work.len(), field)?;
+    find(message, clearances, work, field);
+    Ok(())
 }

@@ -8,33 +8,27 @@ ghost use Rattle.table_length.specs.Depth.{is_power, exponent, table_ok};
 use job::{Parameters, sizes};
 
 // One set bit makes a power of two.
+#[tactic(auto, using(crate::proofs::Bits::one_bit, crate::proofs::Bits::too_large))]
 fn is_power(n: usize) -> bool
     ensures { result ≡ is_power n }
 {
-    if n > job::message_len(job::MAX_DEPTH) {
-        return false;
-    }
-    usize::count_ones(n) == 1
+    n <= job::message_len(job::MAX_DEPTH) && n.count_ones() == 1
 }
 
 // A k0 that is not legal counts as 1.
+#[tactic(auto, unfolding(job::specs::Sizes::sound_k))]
 fn sound_k0(p: Parameters) -> usize
     ensures { result ≡ sound_k p.k0 }
 {
-    if !sizes::k0_ok(p) {
-        return 1;
-    }
-    p.k0 as usize
+    if sizes::k0_ok(p) { p.k0 as usize } else { 1 }
 }
 
 // A table has at least the words of a base message.
+#[tactic(auto, unfolding(crate::specs::Depth::table_ok))]
 pub fn table_ok(p: Parameters, n: usize) -> bool
     ensures { result ≡ table_ok p.k0 n }
 {
-    if !is_power(n) {
-        return false;
-    }
-    sound_k0(p) <= n
+    is_power(n) && sound_k0(p) <= n
 }
 
 // The zeros below that bit are the depth.
@@ -42,5 +36,5 @@ pub fn depth_of(n: usize) -> u32
     requires { is_power n ≡ true }
     ensures { result ≡ exponent n }
 {
-    usize::trailing_zeros(n)
+    n.trailing_zeros()
 }

@@ -10,7 +10,7 @@ ghost use Rattle.transform.specs.Passes.{across, crossed, blocks, passes};
 use residue::Field;
 use words::entry;
 
-#[derive(Clone, Copy)]
+#[derive(Clone, Copy, Debug, PartialEq, Eq)]
 pub enum Way {
     ToCoefficients,
     ToTable,
@@ -32,12 +32,10 @@ fn cross(way: Way, half: usize, s: &mut [u32], field: Field)
     requires { (length s.old ≡ half + half) × Low (P (chosen field)) s.old }
     ensures { s.new ≡ to_words (chosen field) (crossed (across (chosen field) way) half (elements (chosen field) s.old)) }
 {
-    let mut j = 0;
-    while j < half {
+    for j in 0..half {
         let k = half + j;
         let y = step(way, s[j], s[k], field);
         s[k] = y;
-        j += 1;
     }
 }
 
@@ -46,13 +44,11 @@ fn pass(way: Way, half: usize, count: usize, s: &mut [u32], field: Field)
     requires { (length s.old ≡ count * (half + half)) × Low (P (chosen field)) s.old }
     ensures { s.new ≡ to_words (chosen field) (blocks (crossed (across (chosen field) way) half) (half + half) count (elements (chosen field) s.old)) }
 {
-    let mut i = 0;
     let mut at = 0;
-    while i < count {
+    for i in 0..count {
         let end = at + half + half;
         cross(way, half, &mut s[at..end], field);
         at = end;
-        i += 1;
     }
 }
 
@@ -86,13 +82,11 @@ pub fn transform(way: Way, depth: u32, s: &mut [u32], field: Field)
     requires { (length s.old ≡ 2 ^ depth) × Low (P (chosen field)) s.old }
     ensures { s.new ≡ to_words (chosen field) (passes (across (chosen field) way) depth (elements (chosen field) s.old)) }
 {
-    let mut level = 0;
     let mut half = 1;
     let mut count = s.len();
-    while level < depth {
+    for level in 0..depth {
         count /= 2;
         sweep(way, half, count, s, field);
         half *= 2;
-        level += 1;
     }
 }

@@ -3,7 +3,6 @@ ghost use Rattle.std.specs.Prelude.{◌≡◌};
 ghost use Rattle.read_clearance.specs.Reading.{reading as reading_of};
 ghost use Rattle.reply.specs.Replies.{field_of, reading_reply, ToCoefficientsCall, ToTableCall, EvaluateCall};
 
-use evaluate::Evaluation;
 use job::Parameters;
 use reply::answer::Reply;
 use reply::reading::ReadingReply;
@@ -41,16 +40,11 @@ pub fn tv_coefficients_to_table(
 pub fn tv_evaluate(field: bool, p: Parameters, message: &[u32], z: &[u32], value: &mut u32) -> Reply
     ensures { EvaluateCall (field_of field) p.depth p.k0 message.now z.now value.old result value.new }
 {
-    let e = evaluate::evaluate(p, message, z, field::named(field));
-    match e {
-        Evaluation::Value(v) => {
+    match evaluate::evaluate(p, message, z, field::named(field)) {
+        Ok(v) => {
             *value = v;
-            Reply {
-                number: 0,
-                first: 0,
-                second: 0,
-            }
+            answer::DONE
         }
-        Evaluation::Refused(r) => answer::refused(r),
+        Err(r) => answer::refused(r),
     }
 }

@@ -5,7 +5,6 @@ ghost use Rattle.verify.specs.Verifying.{verification};
 ghost use Rattle.reply.specs.Replies.{field_of, triple, WriteCall};
 
 use job::Parameters;
-use open::Written;
 use reply::answer::Reply;
 use reply::{answer, field, verifying};
 
@@ -24,28 +23,13 @@ pub fn tv_write_opening(
 ) -> Reply
     ensures { WriteCall (field_of field) p.depth p.rate p.k0 g.now t.now t2.now message.now z.now r.now opening.old work.old value.old result opening.new work.new value.new }
 {
-    let w = open::write_opening(
-        p,
-        g,
-        t,
-        t2,
-        message,
-        z,
-        r,
-        opening,
-        work,
-        field::named(field),
-    );
-    match w {
-        Written::Value(v) => {
+    let f = field::named(field);
+    match open::write_opening(p, g, t, t2, message, z, r, opening, work, f) {
+        Ok(v) => {
             *value = v;
-            Reply {
-                number: 0,
-                first: 0,
-                second: 0,
-            }
+            answer::DONE
         }
-        Written::Refused(n) => answer::refused(n),
+        Err(r) => answer::refused(r),
     }
 }
 

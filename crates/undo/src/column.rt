@@ -8,11 +8,9 @@ pub fn gather(c: usize, block: &[u32], out: &mut [u32])
     requires { (0 < c) × (c ≤ max_block) × (c * length out.old < length block.now + c) }
     ensures { out.new ≡ every 0 c 0 (length out.old) block.now }
 {
-    let mut i = 0;
     let mut p = 0;
-    while i < out.len() {
+    for i in 0..out.len() {
         out[i] = block[p];
         p += c;
-        i += 1;
     }
 }

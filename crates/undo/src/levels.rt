@@ -12,9 +12,8 @@ fn uncross(n: usize, a: usize, c: usize, t: &[u32], w: &mut [u32], field: Field)
     requires { LevelLent (chosen field) n a c t.now w.old }
     ensures { w.new ≡ uncrossed (chosen field) n a c t.now w.old }
 {
-    let mut i = 0;
     let mut p = 0;
-    while i < n {
+    for i in 0..n {
         let k = n + i;
         let q = a + i;
         let u = w[i];
@@ -22,12 +21,11 @@ fn uncross(n: usize, a: usize, c: usize, t: &[u32], w: &mut [u32], field: Field)
         w[i] = entry::minus_product(u, t[p], r, field);
         w[k] = r;
         p += c;
-        i += 1;
     }
 }
 
 // Half a column of a level, where the level's diagonal begins, and how many inverses stand before its own.
-#[derive(Clone, Copy)]
+#[derive(Clone, Copy, Debug, PartialEq, Eq)]
 pub struct ColumnHalf {
     pub half: usize,
     pub skip: usize,
@@ -43,10 +41,10 @@ fn column_half(depth: u32, c: usize) -> ColumnHalf
     let half = job::message_len(low);
     let skip = half - 1;
     ColumnHalf {
-        half: half,
-        skip: skip,
+        half,
+        skip,
         off: c * skip,
-        low: low,
+        low,
     }
 }
 

@@ -1,14 +1,13 @@
 -- The number of each verdict, and the places that it names. Definitions only. Assumes nothing.
+use Rattle.std.specs.Prelude.{Result, Ok, Err}
 use Rattle.std.proofs.Math.Option.{Option, none, some}
 use Rattle.basefold.specs.Checks.{Check, sum_check, final_check, base_check, fold_check}
 use Rattle.job.specs.Outcome.{Numbers, Outcome, refused, done, due}
 use Rattle.verdict.specs.declared.Failure.{Failure}
 use Rattle.verdict.specs.declared.Failure.TheVariants.{Sum, Final, Base, Fold}
-use Rattle.verdict.specs.declared.Outcome.{Outcome as Result}
+use Rattle.verdict.specs.declared.Outcome.{Outcome as Said}
 use Rattle.verdict.specs.declared.Outcome.TheVariants.{Accepted, Rejected, Refused}
 use Rattle.verdict.specs.declared.Verdict.{Verdict}
-use Rattle.verdict.specs.declared.Found.{Found}
-use Rattle.verdict.specs.declared.Found.TheVariants.{Nothing, First}
 
 -- sum i; final; base j; fold, with the query's position and the level
 abbrev pub check_numbers : Check → Numbers
@@ -30,11 +29,11 @@ check Final = final_check
 check (Base j) = base_check j
 check (Fold q i) = fold_check q i
 
-abbrev pub found : Found → Option Check
-found Nothing = none
-found (First f) = some (check f)
+abbrev pub found : Result (Unit {0}) Failure → Option Check
+found (Ok tt) = none
+found (Err f) = some (check f)
 
-abbrev pub said : Result → Outcome (Option Check)
+abbrev pub said : Said → Outcome (Option Check)
 said Accepted = done none
 said (Rejected f) = done (some (check f))
 said (Refused r) = refused (due r)

@@ -4,7 +4,7 @@
 use job::Refusal;
 
 // Which check failed, and where: sum i; final; base j; fold, with the query's position from 0 and the lower level.
-#[derive(Clone, Copy)]
+#[derive(Clone, Copy, Debug, PartialEq, Eq)]
 pub enum Failure {
     Sum(u32),
     Final,
@@ -12,21 +12,14 @@ pub enum Failure {
     Fold(u32, u32),
 }
 
-#[derive(Clone, Copy)]
+#[derive(Clone, Copy, Debug, PartialEq, Eq)]
 pub enum Outcome {
     Accepted,
     Rejected(Failure),
     Refused(Refusal),
 }
 
-#[derive(Clone, Copy)]
+#[derive(Clone, Copy, Debug, PartialEq, Eq)]
 pub struct Verdict {
     pub outcome: Outcome,
-}
-
-// The first check that fails, of several in their order.
-#[derive(Clone, Copy)]
-pub enum Found {
-    Nothing,
-    First(Failure),
 }

@@ -4,27 +4,25 @@ ghost use Rattle.residue.specs.Chosen.{chosen};
 ghost use Rattle.job.specs.Outcome.{outcome};
 ghost use Rattle.verify.specs.Verifying.{judge_verifying};
 
-use job::{Answer, Parameters};
+use job::{Parameters, Refusal};
 use residue::Field;
 
-pub fn judge(
+#[tactic(auto, unfolding(crate::specs::Verifying::judge_verifying))]
+pub fn judge<'a>(
     p: Parameters,
-    g: &[u32],
-    t: &[u32],
-    t2: &[u32],
-    block: &[u32],
-    z: &[u32],
+    g: &'a [u32],
+    t: &'a [u32],
+    t2: &'a [u32],
+    block: &'a [u32],
+    z: &'a [u32],
     y: u32,
-    r: &[u32],
-    queries: &[u32],
-    opening: &[u32],
+    r: &'a [u32],
+    queries: &'a [u32],
+    opening: &'a [u32],
     field: Field,
-) -> Answer
+) -> Result<(), Refusal>
     ensures { outcome result ≡ judge_verifying (chosen field) p.depth p.rate p.k0 g.now t.now t2.now block.now z.now y r.now queries.now opening.now }
 {
-    let opened = opened::judge_opened(p, g, t, t2, block, z, y, r, opening, field);
-    if let Answer::Refused(n) = opened {
-        return Answer::Refused(n);
-    }
+    opened::judge_opened(p, g, t, t2, block, z, y, r, opening, field)?;
     queries::judge(p, queries)
 }

@@ -10,21 +10,15 @@ pub mod scan;
 pub fn clear(s: &mut [u32])
     ensures { s.new ≡ replicate (length s.old) 0 }
 {
-    let mut i = 0;
-    while i < s.len() {
-        s[i] = 0;
-        i += 1;
-    }
+    s.fill(0);
 }
 
-// The words of s, in t.
+// The words of s, in t. A loop, since `copy_from_slice` would call memmove, which the static library has no need of otherwise.
 pub fn copy(s: &[u32], t: &mut [u32])
     requires { length t.old ≡ length s.now }
     ensures { t.new ≡ s.now }
 {
-    let mut i = 0;
-    while i < s.len() {
+    for i in 0..s.len() {
         t[i] = s[i];
-        i += 1;
     }
 }

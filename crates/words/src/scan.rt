@@ -1,5 +1,5 @@
 // Tests of whole slices, with no early exit, so that they run at the speed of memory.
-ghost use Rattle.std.specs.Prelude.{◌≡◌, not, ◌&&◌, ◌<◌, ◌≤◌, ltb, length, take};
+ghost use Rattle.std.specs.Prelude.{◌≡◌, not, ◌&&◌, ◌≤◌, ltb, length, take};
 ghost use Rattle.residue.specs.Chosen.{chosen};
 ghost use Rattle.residue.specs.Elements.{P};
 ghost use Rattle.words.specs.Scans.{all_under, all_below, none_zero, PlacesScanned, PairScanned};
@@ -11,10 +11,8 @@ pub fn all_under(s: &[u32], p: u32) -> bool
     ensures { result ≡ all_under p s.now }
 {
     let mut ok = true;
-    let mut i = 0;
-    while i < s.len() {
-        ok = ok & (s[i] < p);
-        i += 1;
+    for w in s {
+        ok &= *w < p;
     }
     ok
 }
@@ -30,13 +28,7 @@ pub fn all_below(s: &[u32], field: Field) -> bool
 pub fn three_below(a: &[u32], b: &[u32], c: &[u32], field: Field) -> bool
     ensures { result ≡ (all_below (chosen field) a.now && (all_below (chosen field) b.now && all_below (chosen field) c.now)) }
 {
-    if !all_below(a, field) {
-        return false;
-    }
-    if !all_below(b, field) {
-        return false;
-    }
-    all_below(c, field)
+    all_below(a, field) && all_below(b, field) && all_below(c, field)
 }
 
 // Whether no word is 0.
@@ -44,23 +36,14 @@ pub fn none_zero(s: &[u32]) -> bool
     ensures { result ≡ none_zero s.now }
 {
     let mut ok = true;
-    let mut k = 0;
-    while k < s.len() {
-        ok = ok & (s[k] != 0);
-        k += 1;
+    for x in s {
+        ok &= *x != 0;
     }
     ok
 }
 
-// The lesser of two lengths.
-pub fn shorter(a: usize, b: usize) -> usize
-    ensures { (result ≤ a) × (result ≤ b) × ((result < a) → (result < b) → ⊥) }
-{
-    if a < b { a } else { b }
-}
-
 // What one pass over two slices finds.
-#[derive(Clone, Copy)]
+#[derive(Clone, Copy, Debug, PartialEq, Eq)]
 pub struct PairScan {
     // Each word of both is below the modulus.
     pub below: bool,
@@ -81,13 +64,11 @@ fn scan_places(n: usize, s: &[u32], t: &[u32], p: u32) -> PairScan
 {
     let mut high = false;
     let mut equal = false;
-    let mut j = 0;
-    while j < n {
+    for j in 0..n {
         let x = s[j];
         let y = t[j];
-        high = high | either_high(x, y, p);
-        equal = equal | (x == y);
-        j += 1;
+        high |= either_high(x, y, p);
+        equal |= x == y;
     }
     PairScan {
         below: !high,
@@ -111,7 +92,7 @@ pub fn scan_pair(s: &[u32], t: &[u32], field: Field) -> PairScan
     ensures { PairScanned (chosen field) s.now t.now result.below result.apart }
 {
     let p = Residue::modulus(field);
-    let n = shorter(s.len(), t.len());
+    let n = s.len().min(t.len());
     let places = scan_known(n, s, t, field);
     let first = all_under(&s[n..], p);
     let second = all_under(&t[n..], p);

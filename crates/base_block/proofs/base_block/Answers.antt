@@ -11,8 +11,8 @@ scale-requires c =
     let a = c.args in
     (one_low (chosen a.field) a.n a.g.now a.m.now a.out.now c.requires (omega arith) c.new.ensures, c.requires.lent.low, one_size (chosen a.field) a.n a.g.now a.m.now a.out.now c.requires (omega arith) c.new.ensures)
 
-pub returns-then-m-eq1 : goal.returns-then-m-eq1
-returns-then-m-eq1 c =
+pub returns-in-1 : goal.returns-in-1
+returns-in-1 c =
     let a = c.args in
     one_block (chosen a.field) a.n a.g.now a.m.now a.out.now c.requires (omega arith) c.new.ensures _ c.scale.ensures
 

@@ -69,3 +69,13 @@ returns c =
     let a = c.args in
     let l = c.loop-start in
     filled_end (omega (arith, l.invariant.1)) (length_solved_blocks (chosen a.field) a.k a.m.now a.out.now c.requires) l.invariant.2
+
+pub returns-2 : goal.returns-2
+returns-2 c =
+    let a = c.args in
+    let l = c.loop-start in
+    let h : l.start < length a.out.now = omega (arith, l.invariant.1) in
+    let w = in_out (chosen a.field) a.k a.m.now a.out.now c.requires l.invariant.0 h in
+    filled_end (omega arith) (length_solved_blocks (chosen a.field) a.k a.m.now a.out.now c.requires)
+    (filled_part (l.start + a.k) 0 c.solve.new.b l.invariant.2 (omega arith) w (length_solved_blocks (chosen a.field) a.k a.m.now a.out.now c.requires)
+    (solved_part (chosen a.field) a.k a.m.now a.out.now c.requires l.invariant.0 h l.out l.invariant.2 c.solve.ensures))

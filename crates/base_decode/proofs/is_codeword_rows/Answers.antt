@@ -9,11 +9,11 @@ pub is_its_codeword-requires : goal.is_its_codeword-requires
 is_its_codeword-requires c =
     let a = c.args in
     let p = c.message_of_rows in
-    columns_input (chosen a.field) a.depth a.k a.n a.g.now a.m.now a.t.now a.t2.now a.block.now _ c.requires p.new.work p.auto.work (p.ensures a.g.now)
+    columns_input (chosen a.code.now.field) a.depth a.code.now.k a.code.now.n a.code.now.g.now a.m.now a.code.now.t.now a.code.now.t2.now a.block.now _ c.requires p.new.work p.auto.work (p.ensures a.code.now.g.now)
 
 pub returns : goal.returns
 returns c =
     let a = c.args in
     let p = c.message_of_rows in
     let q = c.is_its_codeword in
-    tried (chosen a.field) a.depth a.k a.n a.g.now a.m.now a.t.now a.t2.now a.block.now _ c.requires p.new.work p.auto.work (p.ensures a.g.now) q.result q.new.work q.ensures
+    tried (chosen a.code.now.field) a.depth a.code.now.k a.code.now.n a.code.now.g.now a.m.now a.code.now.t.now a.code.now.t2.now a.block.now _ c.requires p.new.work p.auto.work (p.ensures a.code.now.g.now) q.result q.new.work q.ensures

@@ -1,11 +1,8 @@
 use mathlib.Core.Path.{◌≡◌}
-use Prim.Native.Nat.{ℕ, ◌-◌, ◌≤◌}
+use Prim.Native.Nat.{ℕ, ◌-◌}
 use Rattle.job.specs.Outcome.{Numbers}
 use Rattle.cursor.specs.Walk.{under, walk}
 use Rattle.cursor.proofs.skim.Given as goal
 
 abbrev pub invariant-loop-k : goal.invariant-loop-k
-invariant-loop-k l = (l.k ≤ l.n) × ((fault : ℕ → Numbers) → walk (under l.limit fault) 0 l.n l.bytes l.at ≡ walk (under l.limit fault) l.k (l.n - l.k) l.bytes l.here)
-
-abbrev pub decreases-loop-k : goal.decreases-loop-k
-decreases-loop-k l = l.n - l.k
+invariant-loop-k l = (fault : ℕ → Numbers) → walk (under l.limit fault) 0 l.n l.bytes l.at ≡ walk (under l.limit fault) l.k (l.n - l.k) l.bytes l.here

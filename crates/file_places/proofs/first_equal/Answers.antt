@@ -1,4 +1,4 @@
-use mathlib.Core.Path.{sym, ap, ◌∙◌}
+use mathlib.Core.Path.{◌≡◌, sym, ap, ◌∙◌}
 use mathlib.Core.Bool.{not}
 use native.Mathlib.Omega.{arith}
 use borrow.Author.Tests.{eq-eqb, ne_eqb}
@@ -39,4 +39,5 @@ pub returns : goal.returns
 returns c =
     let a = c.args in
     let bs = a.bytes.now in
-    passed_end c.loop-j.invariant.2 (omega (arith, length_listed a.n bs a.a, length_listed a.n bs a.b))
+    let done : a.n ≡ c.loop-j.j = omega arith in
+    done ∙ passed_end c.loop-j.invariant.2 (omega (arith, length_listed a.n bs a.a, length_listed a.n bs a.b))

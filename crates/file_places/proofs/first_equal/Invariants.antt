@@ -1,6 +1,6 @@
 use mathlib.Core.Path.{◌≡◌}
 use mathlib.Core.Bool.{not}
-use Prim.Native.Nat.{◌-◌, min}
+use Prim.Native.Nat.{min}
 use lib.Dec.{eqb}
 use lib.ListN.{length, get_or}
 use Rattle.places.proofs.Passed.{Passed}
@@ -12,6 +12,3 @@ invariant-loop-j l =
     (l.here ≡ after l.j l.bytes l.a)
     × (l.there ≡ after l.j l.bytes l.b)
     × Passed (λ k. not (eqb (get_or (listed l.n l.bytes l.a) k 0) (get_or (listed l.n l.bytes l.b) k 0))) (min (length (listed l.n l.bytes l.a)) (length (listed l.n l.bytes l.b))) l.j
-
-abbrev pub decreases-loop-j : goal.decreases-loop-j
-decreases-loop-j l = l.n - l.j

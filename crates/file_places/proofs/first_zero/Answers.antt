@@ -1,4 +1,4 @@
-use mathlib.Core.Path.{sym, ap, ◌∙◌}
+use mathlib.Core.Path.{◌≡◌, sym, ap, ◌∙◌}
 use mathlib.Core.Bool.{not}
 use native.Mathlib.Omega.{arith}
 use borrow.Author.Tests.{eq-eqb, ne_eqb}
@@ -32,4 +32,5 @@ loop-i-preserved c =
 pub returns : goal.returns
 returns c =
     let a = c.args in
-    passed_end c.loop-i.invariant.1 (omega (arith, length_listed a.n a.bytes.now a.at))
+    let done : a.n ≡ c.loop-i.i = omega arith in
+    done ∙ passed_end c.loop-i.invariant.1 (omega (arith, length_listed a.n a.bytes.now a.at))

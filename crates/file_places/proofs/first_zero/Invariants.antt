@@ -1,6 +1,5 @@
 use mathlib.Core.Path.{◌≡◌}
 use mathlib.Core.Bool.{not}
-use Prim.Native.Nat.{◌-◌}
 use lib.Dec.{eqb}
 use lib.ListN.{length, get_or}
 use Rattle.places.proofs.Passed.{Passed}
@@ -10,6 +9,3 @@ use Rattle.file_places.proofs.first_zero.Given as goal
 abbrev pub invariant-loop-i : goal.invariant-loop-i
 invariant-loop-i l =
     (l.here ≡ after l.i l.bytes l.at) × Passed (λ j. not (eqb (get_or (listed l.n l.bytes l.at) j 0) 0)) (length (listed l.n l.bytes l.at)) l.i
-
-abbrev pub decreases-loop-i : goal.decreases-loop-i
-decreases-loop-i l = l.n - l.i

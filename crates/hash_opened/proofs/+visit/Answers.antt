@@ -10,7 +10,7 @@ pub node_of-requires : goal.node_of-requires
 node_of-requires t c = c.requires.0
 
 pub returns-then-t-eq0 : goal.returns-then-t-eq0
-returns-then-t-eq0 t c = let a = c.args in (c.node_of.ensures, leaf_paths a.block.now a.t a.j a.queries.now a.first a.stride a.out.now c.if-t-eq0.true)
+returns-then-t-eq0 t c = let a = c.args in (c.node_of.ensures, leaf_paths a.block.now a.t a.j a.slots.now.queries.now a.slots.now.first a.slots.now.stride a.out.now c.if-t-eq0.true)
 
 pub untouched-requires : goal.untouched-requires
 untouched-requires t c =
@@ -25,7 +25,7 @@ node_of-requires-then-untouched t c = c.requires.0
 pub returns-then-untouched : goal.returns-then-untouched
 returns-then-untouched t c =
     let a = c.args in
-    (c.node_of-then-untouched.ensures, no_paths a.block.now a.t a.j a.queries.now a.first a.stride a.out.now c.untouched.ensures c.if-untouched.true)
+    (c.node_of-then-untouched.ensures, no_paths a.block.now a.t a.j a.slots.now.queries.now a.slots.now.first a.slots.now.stride a.out.now c.untouched.ensures c.if-untouched.true)
 
 pub overflow_mul-j : goal.overflow_mul-j
 overflow_mul-j t c = let a = c.args in omega (arith, right_in _ a.t (a.t - 1) a.j (omega arith) c.requires.0)
@@ -71,5 +71,5 @@ returns t c =
     let y = c.join in
     let z = c.if-t-eq0.false in (
       joined w a.t (a.t - 1) a.j (omega arith) v.ensures.0 x.ensures.0 y.ensures.0,
-      paths_joined w a.queries.now a.t (a.t - 1) a.j a.first a.stride a.out.now v.result.bytes x.result.bytes (omega arith) c.requires.1 v.ensures.0 x.ensures.0 v.ensures.1 x.ensures.1 y.ensures.1,
+      paths_joined w a.slots.now.queries.now a.t (a.t - 1) a.j a.slots.now.first a.slots.now.stride a.out.now v.result.bytes x.result.bytes (omega arith) c.requires.1 v.ensures.0 x.ensures.0 v.ensures.1 x.ensures.1 y.ensures.1,
     )

@@ -1,13 +1,19 @@
-use mathlib.Core.Path.{refl, ap, ◌∙◌}
-use lib.ListN.{replicate}
+use mathlib.Core.Path.{ap, ◌∙◌}
+use native.Mathlib.Omega.{arith}
+use lib.ListN.{length-append, length-take, length-drop}
 use Rattle.sha256.specs.Hash.{digest}
 use Rattle.hash_tree.specs.Tree.{node_hash}
 use Rattle.hash_tree.proofs.Pair.{pair}
 use Rattle.hash_tree.proofs.node.Goals as goal
 
+pub slice_bounds-sha256-end : goal.slice_bounds-sha256-end
+slice_bounds-sha256-end c =
+    let p = c.copy_from_slice.auto.self in
+    let q = c.copy_from_slice-2.auto.self in
+    simp (length-append, length-take, length-drop) (omega arith)
+
 pub returns : goal.returns
 unfolding node_hash
 returns c =
-    let k = c.before.before.before in
-    let f = k.before.before.before in
-    c.sha256.ensures ∙ ap digest (pair (replicate 65 1) c.args.left.now c.args.right.now refl c.requires.0 c.requires.1 c.copy.ensures c.copy-2.ensures)
+    let a = c.args in
+    c.sha256.ensures ∙ ap digest (pair a.left.now a.right.now c.requires.0 c.requires.1 c.copy_from_slice.ensures.after c.copy_from_slice-2.ensures.after)

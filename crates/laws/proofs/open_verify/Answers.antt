@@ -1,8 +1,8 @@
 use Rattle.laws.specs.Honest.{opened, not_opened}
 use Rattle.laws.proofs.open_verify.Goals as goal
 
-pub returns-in-Value : goal.returns-in-Value
-returns-in-Value c = opened _ c.write_opening.ensures c.in-Value.is c.verify_opening.ensures
+pub returns-in-Ok : goal.returns-in-Ok
+returns-in-Ok c = opened _ c.write_opening.ensures c.in-Ok.is c.verify_opening.ensures
 
-pub returns-in-Refused : goal.returns-in-Refused
-returns-in-Refused c = not_opened _ c.write_opening.ensures c.in-Refused.is c.refused.ensures
+pub returns-in-Err : goal.returns-in-Err
+returns-in-Err c = not_opened _ c.write_opening.ensures c.in-Err.is c.refused.ensures

@@ -1,4 +1,3 @@
-use Prim.Native.Nat.{◌-◌}
 use Rattle.residue.specs.Chosen.{chosen}
 use Rattle.residue.specs.Elements.{el}
 use Rattle.residue.specs.Scale.{scale}
@@ -7,6 +6,3 @@ use Rattle.passes.proofs.low_levels.Given as goal
 
 abbrev pub invariant-loop-level : goal.invariant-loop-level
 invariant-loop-level l = Reached (chosen l.field) (el (chosen l.field) (scale l.field)) l.depth l.g l.t l.t2 l.initial.out l.level l.count l.n l.off l.out
-
-abbrev pub decreases-loop-level : goal.decreases-loop-level
-decreases-loop-level l = l.depth - l.level

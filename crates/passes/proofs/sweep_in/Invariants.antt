@@ -1,4 +1,3 @@
-use Prim.Native.Nat.{◌-◌}
 use Rattle.residue.specs.Chosen.{chosen}
 use Rattle.residue.specs.Elements.{el}
 use Rattle.residue.specs.Scale.{scale}
@@ -8,6 +7,3 @@ use Rattle.passes.proofs.sweep_in.Given as goal
 
 abbrev pub invariant-loop-i : goal.invariant-loop-i
 invariant-loop-i l = SweptTo (chosen l.field) (el (chosen l.field) (scale l.field)) (share l.field) (scale_unit l.field) l.count l.t l.t2 l.initial.out l.i l.b l.out
-
-abbrev pub decreases-loop-i : goal.decreases-loop-i
-decreases-loop-i l = l.count - l.i

@@ -1,3 +1,4 @@
+use Rattle.std.proofs.Common.{◌≡◌, ◌∙◌, arith}
 use mathlib.Core.Path.{ap}
 use mathlib.Core.Bool.{not}
 use borrow.Author.Rules.{rules}
@@ -15,4 +16,4 @@ pub loop-j-preserved : goal.loop-j-preserved
 loop-j-preserved c = passed_turn c.loop-j.invariant (search rules) (ap not (ne_eqb _ _ c.if-s-j.false))
 
 pub returns : goal.returns
-returns c = passed_end c.loop-j.invariant (search rules)
+returns c = let done : c.min-n.result ≡ c.loop-j.j = omega arith in done ∙ passed_end c.loop-j.invariant (search rules)

@@ -1,5 +1,5 @@
 use mathlib.Core.Bool.{not}
-use Prim.Native.Nat.{◌-◌, min}
+use Prim.Native.Nat.{min}
 use lib.Dec.{eqb}
 use lib.ListN.{length, get_or}
 use Rattle.places.proofs.Passed.{Passed}
@@ -7,6 +7,3 @@ use Rattle.places.proofs.first_equal.Given as goal
 
 abbrev pub invariant-loop-j : goal.invariant-loop-j
 invariant-loop-j l = Passed (λ k. not (eqb (get_or l.s k 0) (get_or l.t k 0))) (min (length l.s) (length l.t)) l.j
-
-abbrev pub decreases-loop-j : goal.decreases-loop-j
-decreases-loop-j l = l.n - l.j

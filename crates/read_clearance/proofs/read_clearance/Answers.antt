@@ -10,17 +10,14 @@ use Rattle.read_clearance.proofs.Readings.{no_residue, Same, a_residue, reads_co
 use Rattle.read_clearance.proofs.read_clearance.Goals as goal
 use Rattle.read_clearance.proofs.read_clearance.Goals.{After-word-w}
 
-pub returns-in-TooLarge : goal.returns-in-TooLarge
-returns-in-TooLarge c = no_residue (chosen c.args.field) _ (sym c.in-TooLarge.is ∙ c.from_word.ensures)
+pub returns-in_default : goal.returns-in_default
+returns-in_default c = no_residue (chosen c.args.field) c.args.word c.from_word.result c.in_default.not-Some c.from_word.ensures
 
 -- the word that is compared is the one that was passed, and a residue
 same : (c : After-word-w) → (let a = c.args in Same (P (chosen a.field)) a.word c.word-w.result)
 same c =
-    let s = a_residue (chosen c.args.field) _ _ (sym c.in-Residue.is ∙ c.from_word.ensures) in
+    let s = a_residue (chosen c.args.field) _ _ (sym c.in-Some.is ∙ c.from_word.ensures) in
     record { is = c.word-w.ensures ∙ s.is; low = s.low }
-
-pub overflow_sub-amount : goal.overflow_sub-amount
-overflow_sub-amount c = let s = same c.before.before.before.before.before in omega (arith, s.is, s.low, c.modulus.ensures)
 
 pub returns-then-w-eq0 : goal.returns-then-w-eq0
 returns-then-w-eq0 c =
@@ -30,17 +27,14 @@ returns-then-w-eq0 c =
 
 pub returns-then-w-word : goal.returns-then-w-word
 returns-then-w-word c =
-    let w = c.before.before.before.before in
-    let s = same w in
+    let s = same c.before.before.before.before in
     let 𝓕 = chosen c.args.field in
     ap (λ v. done (free v)) s.is
     ∙ reads_free 𝓕 _ (omega (arith, s.is, c.if-w-eq0.false)) (omega (arith, s.is, c.if-w-word.true, c.word.ensures, c.half.ensures, border_half 𝓕))
 
 pub returns-else-w-word : goal.returns-else-w-word
 returns-else-w-word c =
-    let m = c.before in
-    let w = m.before.before.before.before in
-    let s = same w in
+    let s = same c.before.before.before.before.before in
     let 𝓕 = chosen c.args.field in
     ap₂ (λ u v. done (overlap (u - v))) c.modulus.ensures s.is
     ∙ reads_overlap 𝓕 _ (omega (arith, s.is, c.if-w-word.false, c.word.ensures, c.half.ensures, border_half 𝓕)) s.low

@@ -1,5 +1,5 @@
 use mathlib.Core.Path.{◌≡◌}
-use Prim.Native.Nat.{◌-◌, ◌≤◌}
+use Prim.Native.Nat.{◌≤◌}
 use lib.ListN.{length}
 use Rattle.residue.specs.Chosen.{chosen}
 use Rattle.residue.specs.Elements.{el}
@@ -10,6 +10,3 @@ use Rattle.row_code.proofs.scale_loose.Given as goal
 
 abbrev pub invariant-loop-i : goal.invariant-loop-i
 invariant-loop-i l = (l.i ≤ length l.row) × (length l.out ≡ length l.row) × ScaledTo (chosen l.field) (el (chosen l.field) (scale l.field)) (share l.field) (scale_unit l.field) (multiple l.field l.a.0 l.row) l.initial.out l.i l.out
-
-abbrev pub decreases-loop-i : goal.decreases-loop-i
-decreases-loop-i l = length l.row - l.i

@@ -1,6 +1,6 @@
 use mathlib.Core.Path.{◌≡◌}
 use mathlib.Core.List.{map}
-use Prim.Native.Nat.{◌-◌, ◌≤◌}
+use Prim.Native.Nat.{◌≤◌}
 use lib.ListN.{length}
 use Rattle.algebra.specs.Filling.{Filled}
 use Rattle.residue.specs.Chosen.{chosen}
@@ -13,6 +13,3 @@ invariant-loop-i l =
     (l.i ≤ length l.initial.out)
     × (length l.out ≡ length l.initial.out)
     × Filled l.i (added_scaled (chosen l.field) (lowered l.field l.d.0) l.v (added_scaled (chosen l.field) (lowered l.field l.c.0) l.u (map (lowered l.field) l.initial.out))) l.initial.out l.out
-
-abbrev pub decreases-loop-i : goal.decreases-loop-i
-decreases-loop-i l = length l.initial.out - l.i

@@ -1,5 +1,5 @@
 use mathlib.Core.Path.{◌≡◌}
-use Prim.Native.Nat.{◌-◌, ◌≤◌}
+use Prim.Native.Nat.{◌≤◌}
 use lib.ListN.{length}
 use Rattle.algebra.specs.Filling.{Filled}
 use Rattle.residue.specs.Chosen.{chosen}
@@ -9,6 +9,3 @@ use Rattle.row_sums.proofs.two_raised.Given as goal
 
 abbrev pub invariant-loop-i : goal.invariant-loop-i
 invariant-loop-i l = (l.i ≤ length l.initial.out) × (length l.out ≡ length l.initial.out) × Filled l.i (two_scaled (chosen l.field) (lowered l.field l.a.0) (lowered l.field l.b.0) l.g l.h) l.initial.out l.out
-
-abbrev pub decreases-loop-i : goal.decreases-loop-i
-decreases-loop-i l = length l.initial.out - l.i

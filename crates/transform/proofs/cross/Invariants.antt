@@ -6,6 +6,3 @@ use Rattle.transform.proofs.cross.Given as goal
 
 abbrev pub invariant-loop-j : goal.invariant-loop-j
 invariant-loop-j l = Crossing (chosen l.field) (across (chosen l.field) l.way) l.half l.initial.s l.j l.s
-
-abbrev pub decreases-loop-j : goal.decreases-loop-j
-decreases-loop-j l = l.half - l.j

@@ -6,6 +6,3 @@ use Rattle.transform.proofs.pass.Given as goal
 
 abbrev pub invariant-loop-i : goal.invariant-loop-i
 invariant-loop-i l = Passing (chosen l.field) (across (chosen l.field) l.way) l.half l.count l.initial.s l.i l.at l.s
-
-abbrev pub decreases-loop-i : goal.decreases-loop-i
-decreases-loop-i l = l.count - l.i

@@ -17,9 +17,6 @@ pub overflow_mul-half : goal.overflow_mul-half
 overflow_mul-half c =
     record { fits = omega (arith, reached_fits _ c.loop-level.invariant c.loop-level-test.true, c.well_formed.1.1.0.0) }
 
-pub overflow_add-level : goal.overflow_add-level
-overflow_add-level c = record { fits = omega (arith, c.ranges.depth.fits, c.loop-level-test.true) }
-
 pub loop-level-preserved : goal.loop-level-preserved
 loop-level-preserved c = reached_turn _ c.loop-level.invariant c.loop-level-test.true c.sweep.ensures
 

@@ -6,6 +6,3 @@ use Rattle.transform.proofs.transform.Given as goal
 
 abbrev pub invariant-loop-level : goal.invariant-loop-level
 invariant-loop-level l = Reached (chosen l.field) (across (chosen l.field) l.way) l.depth l.initial.s l.level l.half l.count l.s
-
-abbrev pub decreases-loop-level : goal.decreases-loop-level
-decreases-loop-level l = l.depth - l.level

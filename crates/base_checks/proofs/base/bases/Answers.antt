@@ -27,9 +27,6 @@ returns-then-word-bottom c =
     let l = c.loop-j in
     sym (row_fails _ _ l.j l.invariant.1 (omega arith) (base_fails (chosen a.field) a.n a.v.now a.g.now a.bottom.now c.requires l.j _ _ (omega arith) c.word.ensures c.word_at.ensures c.if-word-bottom.true))
 
-pub overflow_add-j : goal.overflow_add-j
-overflow_add-j c = omega (arith, c.requires.narrow)
-
 pub loop-j-preserved : goal.loop-j-preserved
 loop-j-preserved c =
     let a = c.args in

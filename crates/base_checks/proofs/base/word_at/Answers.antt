@@ -9,9 +9,6 @@ loop-b-init c = (omega arith, summed_none _ _ _ _ _)
 pub overflow_mul-b : goal.overflow_mul-b
 overflow_mul-b c = omega (arith, within (chosen c.args.field) {b = c.loop-b.b} c.requires (omega arith))
 
-pub overflow_add-b : goal.overflow_add-b
-overflow_add-b c = omega (arith, within (chosen c.args.field) {b = c.loop-b.b} c.requires (omega arith))
-
 pub offset_bounds-g-b : goal.offset_bounds-g-b
 offset_bounds-g-b c = omega (arith, within (chosen c.args.field) {b = c.loop-b.b} c.requires (omega arith))
 

@@ -1,4 +1,4 @@
-use Prim.Native.Nat.{◌-◌, ◌≤◌}
+use Prim.Native.Nat.{◌≤◌}
 use lib.ListN.{length}
 use Rattle.residue.specs.Chosen.{chosen}
 use Rattle.base_checks.proofs.Products.{Summed}
@@ -6,6 +6,3 @@ use Rattle.base_checks.proofs.base.word_at.Given as goal
 
 abbrev pub invariant-loop-b : goal.invariant-loop-b
 invariant-loop-b l = (l.b ≤ length l.v) × Summed (chosen l.field) l.b l.n l.v l.g l.j l.s
-
-abbrev pub decreases-loop-b : goal.decreases-loop-b
-decreases-loop-b l = length l.v - l.b

@@ -1,5 +1,5 @@
 use mathlib.Core.Path.{◌≡◌}
-use Prim.Native.Nat.{◌-◌, ◌≤◌}
+use Prim.Native.Nat.{◌≤◌}
 use lib.ListN.{length, replicate}
 use Rattle.algebra.specs.Lists.{row}
 use Rattle.algebra.specs.Filling.{Filled}
@@ -9,6 +9,3 @@ use Rattle.base_matrix.proofs.adjugate.adjugate.Given as goal
 
 abbrev pub invariant-loop-p : goal.invariant-loop-p
 invariant-loop-p l = (l.p ≤ 16) × (length l.m ≡ 16) × Filled l.p (row 16 (cell_at (chosen l.field) l.k l.n l.g)) (replicate 16 0) l.m
-
-abbrev pub decreases-loop-p : goal.decreases-loop-p
-decreases-loop-p l = 16 - l.p

@@ -1,4 +1,4 @@
-use Prim.Native.Nat.{◌-◌, ◌≤◌}
+use Prim.Native.Nat.{◌≤◌}
 use lib.ListN.{length}
 use Rattle.residue.specs.Chosen.{chosen}
 use Rattle.base_matrix.proofs.Products.{Summed}
@@ -6,6 +6,3 @@ use Rattle.base_matrix.proofs.product.product_at.Given as goal
 
 abbrev pub invariant-loop-i : goal.invariant-loop-i
 invariant-loop-i l = (l.i ≤ length l.v) × Summed (chosen l.field) l.i l.v l.m l.j l.s
-
-abbrev pub decreases-loop-i : goal.decreases-loop-i
-decreases-loop-i l = length l.v - l.i

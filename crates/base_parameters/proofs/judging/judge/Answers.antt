@@ -6,7 +6,7 @@ use Rattle.base_parameters.proofs.judging.judge.Goals as goal
 pub returns-then-nothing_due : goal.returns-then-nothing_due
 returns-then-nothing_due c =
     let a = c.args in
-    flags_pass (chosen a.field) a.p.depth a.p.rate a.p.k0 a.g.now a.t.now a.t2.now a.block.now a.z.now a.y.now a.r.now a.opening.now a.lengths a.words a.apart
+    flags_pass (chosen a.field) a.p.depth a.p.rate a.p.k0 a.lent.now.g.now a.lent.now.t.now a.lent.now.t2.now a.lent.now.block.now a.lent.now.z.now a.lent.now.y.now a.lent.now.r.now a.lent.now.opening.now a.flags.lengths a.flags.words a.flags.apart
     (sym c.nothing_due.ensures ∙ c.if-nothing_due.true)
 
 pub returns : goal.returns

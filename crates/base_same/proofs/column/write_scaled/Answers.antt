@@ -18,7 +18,7 @@ bounds-g-j c =
 pub loop-i-init : goal.loop-i-init
 loop-i-init c =
     let a = c.args in
-    (omega arith, refl, column_none (chosen a.field) 1 a.n a.q a.j a.g.now a.w.now c.requires)
+    (omega arith, refl, column_none (chosen a.code.now.field) 1 a.code.now.n a.q a.j a.code.now.g.now a.w.now c.requires)
 
 pub overflow_add-p : goal.overflow_add-p
 overflow_add-p c =
@@ -32,13 +32,13 @@ pub bounds-w-i : goal.bounds-w-i
 bounds-w-i c =
     let a = c.args in
     let l = c.loop-i in
-    omega (arith, column_length (chosen a.field) 1 a.n a.q a.j a.g.now a.w.now c.requires l.i l.i l.w (omega arith) l.invariant.2 (omega arith), c.requires.room)
+    omega (arith, column_length (chosen a.code.now.field) 1 a.code.now.n a.q a.j a.code.now.g.now a.w.now c.requires l.i l.i l.w (omega arith) l.invariant.2 (omega arith), c.requires.room)
 
 pub plus_product-requires : goal.plus_product-requires
 plus_product-requires c =
     let a = c.args in
     let l = c.loop-i in
-    (modulus_pos (chosen a.field), scaled_low (chosen a.field) a.n a.q a.j a.g.now a.w.now c.requires l.i l.w l.invariant.2 (omega arith), rw l.invariant.1 (c.requires.lent.low.low a.j (omega (arith, c.requires.column, c.requires.lent.long))))
+    (modulus_pos (chosen a.code.now.field), scaled_low (chosen a.code.now.field) a.code.now.n a.q a.j a.code.now.g.now a.w.now c.requires l.i l.w l.invariant.2 (omega arith), rw l.invariant.1 (c.requires.lent.low.low a.j (omega (arith, c.requires.column, c.requires.lent.long))))
 
 pub offset_bounds-w-p : goal.offset_bounds-w-p
 offset_bounds-w-p c =
@@ -48,22 +48,22 @@ pub bounds-w-p : goal.bounds-w-p
 bounds-w-p c =
     let a = c.args in
     let l = c.loop-i in
-    omega (arith, column_length (chosen a.field) 1 a.n a.q a.j a.g.now a.w.now c.requires l.i l.i l.w (omega arith) l.invariant.2 (omega arith), c.requires.room)
+    omega (arith, column_length (chosen a.code.now.field) 1 a.code.now.n a.q a.j a.code.now.g.now a.w.now c.requires l.i l.i l.w (omega arith) l.invariant.2 (omega arith), c.requires.room)
 
 pub loop-i-preserved : goal.loop-i-preserved
 loop-i-preserved c =
     let a = c.args in
     let l = c.loop-i in
-    (omega arith, l.invariant.1, scaled_turn (chosen a.field) a.n a.q a.j a.g.now a.w.now c.requires l.i l.w l.invariant.2 (omega arith) _ (c.plus_product.ensures ∙ ap (λ x. sum_product (chosen a.field) 0 (get_or l.w l.i 0) x) l.invariant.1))
+    (omega arith, l.invariant.1, scaled_turn (chosen a.code.now.field) a.code.now.n a.q a.j a.code.now.g.now a.w.now c.requires l.i l.w l.invariant.2 (omega arith) _ (c.plus_product.ensures ∙ ap (λ x. sum_product (chosen a.code.now.field) 0 (get_or l.w l.i 0) x) l.invariant.1))
 
 pub shape_of-w : goal.shape_of-w
 shape_of-w c =
     let a = c.args in
     let l = c.loop-i in
-    column_length (chosen a.field) 1 a.n a.q a.j a.g.now a.w.now c.requires l.i l.i l.w (omega arith) l.invariant.2 (omega arith)
+    column_length (chosen a.code.now.field) 1 a.code.now.n a.q a.j a.code.now.g.now a.w.now c.requires l.i l.i l.w (omega arith) l.invariant.2 (omega arith)
 
 pub returns : goal.returns
 returns c =
     let a = c.args in
     let l = c.loop-i in
-    column_end (chosen a.field) 1 a.n a.q a.j a.g.now a.w.now c.requires l.i l.i l.w (omega arith) l.invariant.2 (omega arith) (omega arith)
+    column_end (chosen a.code.now.field) 1 a.code.now.n a.q a.j a.code.now.g.now a.w.now c.requires l.i l.i l.w (omega arith) l.invariant.2 (omega arith) (omega arith)

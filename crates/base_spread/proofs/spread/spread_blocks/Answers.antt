@@ -96,3 +96,16 @@ returns c =
     let 𝓕 = chosen a.field in
     let l = c.loop-i in
     filled_end (omega (arith, reached_end 𝓕 a.k a.n a.g.now a.message.now a.out.now c.requires.0 l.invariant.0 (omega arith), c.requires.0.size)) (length_blocks_by 𝓕 a.k a.n a.g.now a.message.now a.out.now c.requires.0 (elem 𝓕 a.f) ∙ sym c.requires.0.size) l.invariant.2
+
+pub returns-2 : goal.returns-2
+returns-2 c =
+    let a = c.args in
+    let 𝓕 = chosen a.field in
+    let l = c.loop-i in
+    let w = in_blocks 𝓕 a.k a.n a.g.now a.message.now a.out.now c.requires.0 l.invariant.0 (omega arith) in
+    let e = c.requires.0.size in
+    let same = length_blocks_by 𝓕 a.k a.n a.g.now a.message.now a.out.now c.requires.0 (elem 𝓕 a.f) ∙ sym e in
+    let next = reached_next 𝓕 a.k a.n a.g.now a.message.now a.out.now c.requires.0 l.invariant.0 (omega arith) in
+    filled_end (omega (arith, reached_end 𝓕 a.k a.n a.g.now a.message.now a.out.now c.requires.0 next (omega arith), e)) same
+    (filled_part (l.b + a.n) 0 c.scaled_block.new.out l.invariant.2 (omega arith) (omega arith) same
+    (block_part_by 𝓕 a.k a.n a.g.now a.message.now a.out.now c.requires.0 l.invariant.0 (omega arith) (elem 𝓕 a.f) c.scaled_block.ensures))

@@ -1,5 +1,5 @@
 use mathlib.Core.Path.{◌≡◌}
-use Prim.Native.Nat.{◌*◌, ◌-◌, ◌/◌}
+use Prim.Native.Nat.{◌*◌, ◌/◌}
 use lib.ListN.{length}
 use Rattle.algebra.specs.Filling.{Filled}
 use Rattle.residue.specs.Elements.{elem}
@@ -11,6 +11,3 @@ use Rattle.base_spread.proofs.spread.spread_blocks.Given as goal
 abbrev pub invariant-loop-i : goal.invariant-loop-i
 invariant-loop-i l =
     Reached l.k l.n (length l.message / l.k) l.i l.b × (length l.out ≡ l.n * (length l.message / l.k)) × Filled l.b (blocks_by (chosen l.field) (elem (chosen l.field) l.f) l.k l.n l.g l.message) l.initial.out l.out
-
-abbrev pub decreases-loop-i : goal.decreases-loop-i
-decreases-loop-i l = length l.message - l.i

@@ -7,8 +7,5 @@ use Rattle.base_walks.proofs.folds.walk.Given as goal
 
 abbrev pub invariant-loop-i : goal.invariant-loop-i
 invariant-loop-i l =
-    let 𝓕 = chosen l.field in
-    Walking (F 𝓕) l.low (lent_rows 𝓕 l.k l.n l.g l.t l.t2) l.n l.depth (elements 𝓕 l.block) (elements 𝓕 l.r) (elements 𝓕 l.opening) l.q l.u l.i l.at
-
-abbrev pub decreases-loop-i : goal.decreases-loop-i
-decreases-loop-i l = l.i
+    let 𝓕 = chosen l.code.field in
+    Walking (F 𝓕) l.code.low (lent_rows 𝓕 l.code.k l.code.n l.code.g.now l.code.t.now l.code.t2.now) l.code.n l.opened.depth (elements 𝓕 l.opened.block.now) (elements 𝓕 l.opened.r.now) (elements 𝓕 l.opened.opening.now) l.q l.u l.i l.at

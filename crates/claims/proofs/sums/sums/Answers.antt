@@ -1,7 +1,7 @@
 use native.Mathlib.Omega.{arith}
 use Rattle.residue.specs.Chosen.{chosen}
 use Rattle.algebra.specs.Flags.{passes, fails}
-use Rattle.claims.proofs.SumChecks.{sums_none, sums_end, sums_fails, sums_turn, round_sent, challenge_sent}
+use Rattle.claims.proofs.SumChecks.{sums_none, sums_end, sums_fails, sums_turn, round_sent}
 use Rattle.std.proofs.Common.{ap, not}
 use Rattle.claims.proofs.sums.sums.Goals as goal
 
@@ -19,15 +19,6 @@ returns-then-not-sum_holds c =
     let a = c.args in
     let l = c.loop-i in
     sums_fails (chosen a.field) a.depth a.y a.r.now a.opening.now c.requires l.i l.claim l.invariant c.loop-i-test.true (fails c.sum_holds.ensures (ap not c.if-not-sum_holds.true))
-
-pub next_claim-claim-requires : goal.next_claim-claim-requires
-next_claim-claim-requires c =
-    let a = c.args in
-    let 𝓕 = chosen a.field in
-    let l = c.loop-i in (
-      round_sent 𝓕 a.depth a.y a.r.now a.opening.now c.requires l.i l.claim l.invariant c.loop-i-test.true,
-      challenge_sent 𝓕 a.depth a.y a.r.now a.opening.now c.requires l.i l.claim l.invariant c.loop-i-test.true,
-    )
 
 pub loop-i-preserved : goal.loop-i-preserved
 loop-i-preserved c =

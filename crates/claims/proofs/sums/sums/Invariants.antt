@@ -4,6 +4,3 @@ use Rattle.claims.proofs.sums.sums.Given as goal
 
 abbrev pub invariant-loop-i : goal.invariant-loop-i
 invariant-loop-i l = SumsLeft (chosen l.field) l.depth l.initial.claim l.r l.opening l.i l.claim
-
-abbrev pub decreases-loop-i : goal.decreases-loop-i
-decreases-loop-i l = l.i

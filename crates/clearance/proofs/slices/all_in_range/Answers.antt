@@ -21,21 +21,21 @@ within c = let f = c.args.field in limits (chosen f) (most f) _ c.max_clearance-
 pub overflow_sub-min : goal.overflow_sub-min
 overflow_sub-min c = (within c).fits
 
-pub loop-i-init : goal.loop-i-init
-loop-i-init c = (omega arith, all_none (test c) c.args.s.now)
+pub loop-x-init : goal.loop-x-init
+loop-x-init c = all_none (test c) c.args.s.now
 
-pub loop-i-preserved : goal.loop-i-preserved
-loop-i-preserved c =
-    let l = c.loop-i in
+pub loop-x-preserved : goal.loop-x-preserved
+loop-x-preserved c =
+    let l = c.loop-x in
     let m = c.before.before.before.before in
     let s = c.args.s.now in
-    let read = ap (test m) (read_any (get_or s l.i (pos 0)) c.in_range-arg-1.given) in
-    (omega arith, all_turn (test m) l.i s (pos 0) (search rules) l.invariant.1 (c.in_range-ok.ensures ∙ read))
+    let read = ap (test m) (read_any (get_or s l.x-index (pos 0)) c.in_range-arg-1.given) in
+    all_turn (test m) l.x-index s (pos 0) (search rules) l.invariant (c.in_range-ok.ensures ∙ read)
 
 pub returns : goal.returns
 returns c =
-    let l = c.loop-i in
+    let l = c.loop-x in
     let m = c.before.before in
     let s = c.args.s.now in
     let w = within m in
-    all_end (test m) l.i s (omega arith) l.invariant.1 ∙ ap₂ (λ low high. all (between low high) s) w.low w.high
+    all_end (test m) l.x-index s (omega arith) l.invariant ∙ ap₂ (λ low high. all (between low high) s) w.low w.high

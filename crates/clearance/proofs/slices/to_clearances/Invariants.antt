@@ -1,6 +1,6 @@
 use mathlib.Core.Path.{◌≡◌}
 use mathlib.Core.List.{map}
-use Prim.Native.Nat.{◌-◌, ◌≤◌}
+use Prim.Native.Nat.{◌≤◌}
 use lib.ListN.{length, replicate}
 use Rattle.algebra.specs.Filling.{Filled}
 use Rattle.clearance.specs.Clearances.{clearance_by}
@@ -10,6 +10,3 @@ abbrev pub invariant-loop-i : goal.invariant-loop-i
 invariant-loop-i l =
     let n = length l.initial.s in
     (l.i ≤ n) × (length l.s ≡ n) × (length l.out ≡ n) × Filled l.i (map (clearance_by l.border l.p) l.initial.s) l.initial.out l.out × Filled l.i (replicate n 0) l.initial.s l.s
-
-abbrev pub decreases-loop-i : goal.decreases-loop-i
-decreases-loop-i l = length l.initial.s - l.i

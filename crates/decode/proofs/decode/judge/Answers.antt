@@ -10,12 +10,12 @@ use Rattle.decode.specs.Decoding.{decode_lengths, judge_decoding}
 use Rattle.decode.specs.Laws.{decode_sized, decode_flagged}
 use Rattle.decode.proofs.decode.judge.Goals as goal
 
-pub judge_block-requires : goal.judge_block-requires
-judge_block-requires c =
+pub judge-requires : goal.judge-requires
+judge-requires c =
     let a = c.args in
     let l = c.lengths_ok-lengths.ensures in (
       decode_sized a.p.depth a.p.rate a.p.k0 a.g.now a.t.now a.t2.now a.block.now a.out a.work l,
-      decode_flagged a.p.depth a.p.rate a.p.k0 a.g.now a.t.now a.t2.now a.block.now a.out a.work l (chosen a.field) c.scan_row-row.ensures (λ f. (and_both _ _ (sym c.all_words_ok-words.ensures ∙ f)).0),
+      decode_flagged a.p.depth a.p.rate a.p.k0 a.g.now a.t.now a.t2.now a.block.now a.out a.work l (chosen a.field) c.scan_row-row.ensures (λ f. (and_both _ _ (sym c.all_words_ok.ensures ∙ f)).0),
     )
 
 pub returns : goal.returns
@@ -25,4 +25,4 @@ returns c =
     let 𝓕 = chosen a.field in
     judged_by 𝓕 a.p.depth a.p.rate a.p.k0 a.g.now a.t.now a.t2.now a.block.now [] [] [] []
     (decode_lengths a.p.depth a.p.rate a.p.k0 (length a.g.now) (length a.t.now) (length a.t2.now) (length a.block.now) a.out a.work)
-    ((Block, a.block.now) ∷ []) refl c.lengths_ok-lengths.ensures c.scan_row-row.ensures (one_below 𝓕 Block a.block.now c.all_words_ok-words.ensures) c.judge_block.ensures
+    ((Block, a.block.now) ∷ []) refl c.lengths_ok-lengths.ensures c.scan_row-row.ensures (one_below 𝓕 Block a.block.now c.all_words_ok.ensures) c.judge.ensures

@@ -5,8 +5,5 @@ use Rattle.pair_fold.specs.Steps.{pair_lines}
 use Rattle.pair_fold.proofs.Drawing.{DrawnFrom}
 use Rattle.pair_fold.proofs.lines.draw.Given as goal
 
-abbrev pub invariant-loop-left : goal.invariant-loop-left
-invariant-loop-left l = DrawnFrom 𝔽₁ l.left (length l.t) (pair_lines 𝔽₁ (length l.t) (pair_of 𝔽₁ l.challenge) l.t l.block l.initial.out) l.initial.out l.out
-
-abbrev pub decreases-loop-left : goal.decreases-loop-left
-decreases-loop-left l = l.left
+abbrev pub invariant-loop-j : goal.invariant-loop-j
+invariant-loop-j l = DrawnFrom 𝔽₁ l.j (length l.t) (pair_lines 𝔽₁ (length l.t) (pair_of 𝔽₁ l.challenge) l.t l.block l.initial.out) l.initial.out l.out

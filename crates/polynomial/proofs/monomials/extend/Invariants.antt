@@ -1,10 +1,7 @@
-use Prim.Native.Nat.{◌-◌, ◌≤◌}
+use Prim.Native.Nat.{◌≤◌}
 use Rattle.residue.specs.Chosen.{chosen}
 use Rattle.polynomial.proofs.LowMonomials.{Extending}
 use Rattle.polynomial.proofs.monomials.extend.Given as goal
 
 abbrev pub invariant-loop-b : goal.invariant-loop-b
 invariant-loop-b l = (l.b ≤ l.size) × Extending (chosen l.field) l.b l.size l.x l.initial.w l.w
-
-abbrev pub decreases-loop-b : goal.decreases-loop-b
-decreases-loop-b l = l.size - l.b

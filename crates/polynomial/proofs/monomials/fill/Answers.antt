@@ -25,5 +25,4 @@ loop-i-preserved c =
 pub returns : goal.returns
 returns c =
     let l = c.loop-i in
-    let k = c.shorter-k.ensures in
-    grown_end (chosen c.args.field) _ l.i l.size l.w l.invariant.1 (omega arith) (λ p q. k.2 (omega arith) (omega arith))
+    grown_end (chosen c.args.field) _ l.i l.size l.w l.invariant.1 (omega arith) (λ p q. omega (arith, c.min-k.ensures))

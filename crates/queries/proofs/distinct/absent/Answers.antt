@@ -1,18 +1,18 @@
 use mathlib.Core.Path.{refl, ◌∙◌}
 use mathlib.Core.Bool.{not}
-use borrow.Author.Rules.{rules}
+use native.Mathlib.Omega.{arith}
 use lib.Dec.{eqb}
 use Rattle.algebra.specs.Tests.{not_or, all_none, all_turn, all_end}
 use Rattle.queries.proofs.distinct.absent.Goals as goal
 
-pub loop-k-init : goal.loop-k-init
-loop-k-init c = (search rules, all_none _ c.args.s.now)
+pub loop-w-init : goal.loop-w-init
+loop-w-init c = all_none _ c.args.s.now
 
-pub loop-k-preserved : goal.loop-k-preserved
-loop-k-preserved c =
+pub loop-w-preserved : goal.loop-w-preserved
+loop-w-preserved c =
     let a = c.args in
-    let l = c.loop-k in
-    (search rules, not_or l.found _ ∙ all_turn (λ w. not (eqb w a.x)) l.k a.s.now 0 (search rules) l.invariant.1 refl)
+    let l = c.loop-w in
+    not_or l.found _ ∙ all_turn (λ w. not (eqb w a.x)) l.w-index a.s.now 0 (omega arith) l.invariant refl
 
 pub returns : goal.returns
-returns c = let l = c.loop-k in all_end _ l.k c.args.s.now (search rules) l.invariant.1
+returns c = let l = c.loop-w in all_end _ l.w-index c.args.s.now (omega arith) l.invariant

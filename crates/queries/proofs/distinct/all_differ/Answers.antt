@@ -1,4 +1,3 @@
-use mathlib.Core.Path.{sym, ◌∙◌}
 use native.Mathlib.Omega.{arith}
 use borrow.Author.Rules.{rules}
 use lib.ListN.{length-take}
@@ -8,14 +7,14 @@ use Rattle.queries.proofs.distinct.all_differ.Goals as goal
 pub loop-i-init : goal.loop-i-init
 loop-i-init c = marked_none (search rules)
 
-pub slice_bounds-met-end : goal.slice_bounds-met-end
-slice_bounds-met-end c = simp length-take (omega (arith, c.loop-i.invariant.within))
+pub slice_bounds-absent-end : goal.slice_bounds-absent-end
+slice_bounds-absent-end c = simp length-take (omega (arith, c.loop-i.invariant.within))
 
-pub returns-then-met : goal.returns-then-met
-returns-then-met c = marked_stop c.loop-i.invariant (search rules) (sym c.met.ensures ∙ c.if-met.true)
+pub returns-then-not-absent : goal.returns-then-not-absent
+returns-then-not-absent c = marked_stop c.loop-i.invariant (search rules) (grind arith)
 
 pub loop-i-preserved : goal.loop-i-preserved
-loop-i-preserved c = marked_turn c.loop-i.invariant (search rules) (sym c.met.ensures ∙ c.if-met.false)
+loop-i-preserved c = marked_turn c.loop-i.invariant (search rules) (grind arith)
 
 pub returns : goal.returns
 returns c = marked_end c.loop-i.invariant (search rules)

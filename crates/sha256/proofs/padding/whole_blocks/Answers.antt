@@ -9,7 +9,7 @@ use Rattle.sha256.proofs.padding.whole_blocks.Goals as goal
 
 pub loop-i-init : goal.loop-i-init
 unfolding hashed
-loop-i-init c = (omega arith, c.initial-s.ensures)
+loop-i-init c = c.initial-s.ensures
 
 pub compress-s-requires : goal.compress-s-requires
 compress-s-requires c = simp (length-take, length-drop) (omega arith)
@@ -18,13 +18,11 @@ pub loop-i-preserved : goal.loop-i-preserved
 loop-i-preserved c =
     let l = c.loop-i in
     let m = c.args.m.now in
-    let all : 64 * l.i + 64 - 64 * l.i ≡ 64 = omega arith in (
-      omega arith,
-      hashed_turn (padded m) _ l.i (ap (λ k. take k (drop (64 * l.i) m)) all ∙ front_block m l.i (omega arith)) l.invariant.1 c.compress-s.ensures,
-    )
+    let all : 64 * l.i + 64 - 64 * l.i ≡ 64 = omega arith in
+    hashed_turn (padded m) _ l.i (ap (λ k. take k (drop (64 * l.i) m)) all ∙ front_block m l.i (omega arith)) l.invariant c.compress-s.ensures
 
 pub returns : goal.returns
 returns c =
     let l = c.loop-i in
     let e : l.i ≡ length c.args.m.now / 64 = omega arith in
-    l.invariant.1 ∙ ap (hashed _) e
+    l.invariant ∙ ap (hashed _) e

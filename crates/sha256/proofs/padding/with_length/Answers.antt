@@ -1,17 +1,16 @@
-use mathlib.Core.Path.{◌≡◌, ◌∙◌, ap₂}
-use mathlib.Core.List.{[], ◌∷◌, ◌++◌}
-use Prim.Native.Nat.{◌+◌, ◌*◌, ◌/◌, ◌%◌, ◌^◌}
+use mathlib.Core.Path.{◌≡◌, sym, ◌∙◌, ap, ap₂}
+use mathlib.Core.List.{◌++◌, append_assoc}
+use Prim.Native.Nat.{◌+◌, ◌-◌}
 use native.Mathlib.Omega.{arith}
 use lib.ListN.{take, drop}
-use Rattle.sha256.specs.Padding.{all_bytes}
-use Rattle.sha256.proofs.Places.{two_words}
+use lib.Seq.{drop-drop}
+use Rattle.sha256.proofs.Places.{eight_bytes}
 use Rattle.sha256.proofs.padding.with_length.Goals as goal
 
 pub returns : goal.returns
 returns c =
     let a = c.args in
-    let high : a.n / 536870912 % 4294967296 ≡ 8 * a.n / 2 ^ 32 % 2 ^ 32 = omega arith in
-    let low : a.n % 536870912 * 8 ≡ 8 * a.n % 2 ^ 32 = omega arith in
-    two_words a.out a.at (a.n / 536870912 % 4294967296) (a.n % 536870912 * 8) (omega (arith, c.well_formed)) c.put_word.ensures
-    c.put_word-2.ensures
-    ∙ ap₂ (λ x y. take a.at a.out ++ all_bytes (x ∷ y ∷ []) ++ drop (a.at + 8) a.out) high low
+    let end : a.at + (a.at + 8 - a.at) ≡ a.at + 8 = omega arith in
+    ap₂ (λ r l. take a.at a.block ++ (r ++ l)) (c.copy_from_slice.ensures.after ∙ eight_bytes a.n c.to_be_bytes.ensures)
+    (drop-drop (a.at + 8 - a.at) a.at a.block ∙ ap (λ k. drop k a.block) end)
+    ∙ sym (append_assoc (take a.at a.block) _ _)

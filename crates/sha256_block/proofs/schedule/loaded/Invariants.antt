@@ -1,5 +1,4 @@
 use mathlib.Core.Path.{◌≡◌}
-use Prim.Native.Nat.{◌-◌, ◌≤◌}
 use lib.ListN.{length, replicate}
 use Rattle.algebra.specs.Lists.{row}
 use Rattle.algebra.specs.Filling.{Filled}
@@ -7,7 +6,4 @@ use Rattle.sha256_block.specs.Compression.{W}
 use Rattle.sha256_block.proofs.schedule.loaded.Given as goal
 
 abbrev pub invariant-loop-t : goal.invariant-loop-t
-invariant-loop-t l = (l.t ≤ 16) × (length l.w ≡ 64) × Filled l.t (row 64 (W l.b)) (replicate 64 0) l.w
-
-abbrev pub decreases-loop-t : goal.decreases-loop-t
-decreases-loop-t l = 16 - l.t
+invariant-loop-t l = (length l.w ≡ 64) × Filled l.t (row 64 (W l.b)) (replicate 64 0) l.w

@@ -1,5 +1,5 @@
 use mathlib.Core.Path.{◌≡◌}
-use Prim.Native.Nat.{◌-◌, ◌≤◌}
+use Prim.Native.Nat.{◌≤◌}
 use lib.ListN.{length, replicate}
 use Rattle.algebra.specs.Lists.{row}
 use Rattle.algebra.specs.Filling.{Filled}
@@ -7,7 +7,4 @@ use Rattle.sha256_block.specs.Compression.{W}
 use Rattle.sha256_block.proofs.schedule.schedule.Given as goal
 
 abbrev pub invariant-loop-t : goal.invariant-loop-t
-invariant-loop-t l = (16 ≤ l.t) × (l.t ≤ 64) × (length l.w ≡ 64) × Filled l.t (row 64 (W l.b)) (replicate 64 0) l.w
-
-abbrev pub decreases-loop-t : goal.decreases-loop-t
-decreases-loop-t l = 64 - l.t
+invariant-loop-t l = (16 ≤ l.t) × (length l.w ≡ 64) × Filled l.t (row 64 (W l.b)) (replicate 64 0) l.w

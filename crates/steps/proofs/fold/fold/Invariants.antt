@@ -7,6 +7,3 @@ use Rattle.steps.proofs.fold.fold.Given as goal
 
 abbrev pub invariant-loop-j : goal.invariant-loop-j
 invariant-loop-j l = (l.j ≤ l.half) × Filled l.j (folded_front (chosen l.field) (elem (chosen l.field) l.a) l.initial.m) l.initial.m l.m
-
-abbrev pub decreases-loop-j : goal.decreases-loop-j
-decreases-loop-j l = l.half - l.j

@@ -1,26 +1,26 @@
 use mathlib.Core.Path.{sym, ap, ◌∙◌}
 use Rattle.reply.specs.Replies.{reply, given}
-use Rattle.open.specs.Writing.{written_outcome as wrote}
+use Rattle.job.specs.Outcome.{outcome}
 use Rattle.tvarchula.proofs.opening.tv_write_opening.Goals as goal
 
-pub returns-in-Value : goal.returns-in-Value
-returns-in-Value c =
-    let w = c.write_opening-w in
-    let is = sym c.in-Value.is in
+pub returns-in-Ok : goal.returns-in-Ok
+returns-in-Ok c =
+    let w = c.write_opening in
+    let is = sym c.in-Ok.is in
     record {
       job = w.result;
-      answer = ap (λ x. reply (wrote x)) is;
-      result = rw (sym c.named.ensures) w.ensures;
-      single = ap (λ x. given (wrote x) c.args.value.now) is;
+      answer = ap (λ x. reply (outcome x)) is;
+      result = rw (sym c.named-f.ensures) w.ensures;
+      single = ap (λ x. given (outcome x) c.args.value.now) is;
     }
 
-pub returns-in-Refused : goal.returns-in-Refused
-returns-in-Refused c =
-    let w = c.write_opening-w in
-    let is = sym c.in-Refused.is in
+pub returns-in-Err : goal.returns-in-Err
+returns-in-Err c =
+    let w = c.write_opening in
+    let is = sym c.in-Err.is in
     record {
       job = w.result;
-      answer = c.refused.ensures ∙ ap (λ x. reply (wrote x)) is;
-      result = rw (sym c.named.ensures) w.ensures;
-      single = ap (λ x. given (wrote x) c.args.value.now) is;
+      answer = c.refused.ensures ∙ ap (λ x. reply (outcome x)) is;
+      result = rw (sym c.named-f.ensures) w.ensures;
+      single = ap (λ x. given (outcome x) c.args.value.now) is;
     }

@@ -15,12 +15,24 @@ new-w1-requires c = c.requires.upper.low (length c.args.lower.now + c.args.u) (o
 pub new-b-requires : goal.new-b-requires
 new-b-requires c = c.requires.lower.low c.args.u c.requires.place
 
-pub on_line_of-requires : goal.on_line_of-requires
-on_line_of-requires c =
+pub on_line-requires : goal.on_line-requires
+on_line-requires c =
     let a = c.args in
-    line_points (chosen a.field) a.a a.t a.t2 a.u a.upper.now a.lower.now c.requires _ _ _ c.new-w0.ensures c.new-w1.ensures c.new-b.ensures
+    rw c.in-First.is at (line_points (chosen a.field) a.a a.t a.t2 a.u a.upper.now a.lower.now c.requires _ _ _ c.new-w0.ensures c.new-w1.ensures c.new-b.ensures)
 
-pub returns : goal.returns
-returns c =
+pub on_line-requires-in-Second : goal.on_line-requires-in-Second
+on_line-requires-in-Second c =
     let a = c.args in
-    c.on_line_of.ensures ∙ line_is (chosen a.field) a.a a.t a.t2 a.u a.upper.now a.lower.now c.requires _ _ _ c.new-w0.ensures c.new-w1.ensures c.new-b.ensures
+    rw c.in-Second.is at (line_points (chosen a.field) a.a a.t a.t2 a.u a.upper.now a.lower.now c.requires _ _ _ c.new-w0.ensures c.new-w1.ensures c.new-b.ensures)
+
+pub returns-in-First : goal.returns-in-First
+returns-in-First c =
+    let a = c.args in
+    rw c.in-First.is c.on_line.ensures
+    ∙ line_is (chosen a.field) a.a a.t a.t2 a.u a.upper.now a.lower.now c.requires _ _ _ c.new-w0.ensures c.new-w1.ensures c.new-b.ensures
+
+pub returns-in-Second : goal.returns-in-Second
+returns-in-Second c =
+    let a = c.args in
+    rw c.in-Second.is c.on_line-in-Second.ensures
+    ∙ line_is (chosen a.field) a.a a.t a.t2 a.u a.upper.now a.lower.now c.requires _ _ _ c.new-w0.ensures c.new-w1.ensures c.new-b.ensures

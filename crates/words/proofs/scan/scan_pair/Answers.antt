@@ -1,4 +1,5 @@
 use mathlib.Core.Path.{sym}
+use native.Mathlib.Omega.{arith}
 use Rattle.residue.specs.Chosen.{chosen}
 use Rattle.words.specs.ScanLaws.{pair_scanned}
 use Rattle.words.proofs.scan.scan_pair.Goals as goal
@@ -6,5 +7,4 @@ use Rattle.words.proofs.scan.scan_pair.Goals as goal
 pub returns : goal.returns
 returns c =
     let a = c.args in
-    let n = c.shorter-n.ensures in
-    pair_scanned (chosen a.field) _ _ a.s.now a.t.now c.modulus-p.ensures n.0 n.1 n.2 (rw (sym c.modulus-p.ensures) at c.scan_known-places.ensures) c.all_under-first.ensures c.all_under-second.ensures
+    pair_scanned (chosen a.field) _ _ a.s.now a.t.now c.modulus-p.ensures (omega arith) (omega arith) (omega arith) (rw (sym c.modulus-p.ensures) at c.scan_known-places.ensures) c.all_under-first.ensures c.all_under-second.ensures
