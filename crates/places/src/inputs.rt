@@ -73,7 +73,33 @@ pub fn judge_words(words: bool, lent: &Inputs, field: Field) -> Result<(), Refus
     first_word(lent, field)
 }
 
-// The same for a call that is lent no base row, no claim and no opening.
+// The first such word of a call that is lent no base row, no claim and no opening. Not taken in where it is called: the record would lie on the stack of calls
+// that need none.
+#[cold]
+#[inline(never)]
+fn first_without_row<'a>(
+    t: &'a [u32],
+    t2: &'a [u32],
+    block: &'a [u32],
+    z: &'a [u32],
+    r: &'a [u32],
+    field: Field,
+) -> Result<(), Refusal>
+    requires { Short [] t.now t2.now block.now z.now [] r.now [] }
+    ensures { outcome result ≡ judge_words (chosen field) (in_order [] t.now t2.now block.now z.now [] r.now []) }
+{
+    let lent = Inputs {
+        t,
+        t2,
+        block,
+        z,
+        r,
+        ..Inputs::NONE
+    };
+    first_word(&lent, field)
+}
+
+// 4 for such a call. The flag is asked before the record is made: a small evaluation takes a quarter more time where each call makes one.
 pub fn judge_without_row<'a>(
     words: bool,
     t: &'a [u32],
@@ -86,15 +112,10 @@ pub fn judge_without_row<'a>(
     requires { Short [] t.now t2.now block.now z.now [] r.now [] }
     ensures { outcome result ≡ unless words (judge_words (chosen field) (in_order [] t.now t2.now block.now z.now [] r.now [])) }
 {
-    let lent = Inputs {
-        t,
-        t2,
-        block,
-        z,
-        r,
-        ..Inputs::NONE
-    };
-    judge_words(words, &lent, field)
+    if words {
+        return Ok(());
+    }
+    first_without_row(t, t2, block, z, r, field)
 }
 
 // 5. The place is looked for only where there is one.
