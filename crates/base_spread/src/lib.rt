@@ -14,13 +14,13 @@ pub mod spread;
 // The code that a base matrix and the diagonals of all levels make. g holds the k rows of the base matrix, of n words each, one behind the other, and
 // `low` variables are inside a base message: k is 2^low. t and t2 hold the diagonals of each level, the lowest first.
 #[derive(Clone, Copy)]
-pub struct RowCode<'a> {
+pub struct RowCode<'g, 't, 't2> {
     pub low: u32,
     pub k: usize,
     pub n: usize,
-    pub g: &'a [u32],
-    pub t: &'a [u32],
-    pub t2: &'a [u32],
+    pub g: &'g [u32],
+    pub t: &'t [u32],
+    pub t2: &'t2 [u32],
     pub field: Field,
 }
 

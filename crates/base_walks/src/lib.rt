@@ -19,12 +19,13 @@ use verdict::Failure;
 pub mod folds;
 pub mod levels;
 
-// What a verifier is lent of an opening for `depth` levels: the committed block, the challenges and the opening's words.
+// What a verifier is lent of an opening for `depth` levels: the committed block, the challenges and the opening's words. The block of a level lies in the first or
+// the last of them, so these two have one lifetime.
 #[derive(Clone, Copy)]
-pub struct Opened<'a> {
+pub struct Opened<'a, 'r> {
     pub depth: u32,
     pub block: &'a [u32],
-    pub r: &'a [u32],
+    pub r: &'r [u32],
     pub opening: &'a [u32],
 }
 

@@ -37,12 +37,12 @@ fn lengths_ok(
     judging::lengths_ok(p, g, t, t2) && buffers_ok(p, block, out, work)
 }
 
-fn judge<'a>(
+fn judge(
     p: Parameters,
-    g: &'a [u32],
-    t: &'a [u32],
-    t2: &'a [u32],
-    block: &'a [u32],
+    g: &[u32],
+    t: &[u32],
+    t2: &[u32],
+    block: &[u32],
     out: usize,
     work: usize,
     field: Field,
@@ -67,12 +67,12 @@ fn judge<'a>(
 }
 
 // Where 5 is not due the first columns have an inverse, so what inverting says of that is not asked.
-pub fn decode<'a>(
+pub fn decode(
     p: Parameters,
-    g: &'a [u32],
-    t: &'a [u32],
-    t2: &'a [u32],
-    block: &'a [u32],
+    g: &[u32],
+    t: &[u32],
+    t2: &[u32],
+    block: &[u32],
     out: &mut [u32],
     work: &mut [u32],
     field: Field,

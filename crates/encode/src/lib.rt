@@ -23,12 +23,12 @@ fn lengths_ok(p: Parameters, g: usize, t: usize, t2: usize, m: usize, out: usize
         && out == sizes::block_len(p, p.depth)
 }
 
-fn judge<'a>(
+fn judge(
     p: Parameters,
-    g: &'a [u32],
-    t: &'a [u32],
-    t2: &'a [u32],
-    m: &'a [u32],
+    g: &[u32],
+    t: &[u32],
+    t2: &[u32],
+    m: &[u32],
     out: usize,
     field: Field,
 ) -> Result<(), Refusal>
@@ -51,12 +51,12 @@ fn judge<'a>(
     judging::judge(p, &lent, flags, field)
 }
 
-pub fn encode<'a>(
+pub fn encode(
     p: Parameters,
-    g: &'a [u32],
-    t: &'a [u32],
-    t2: &'a [u32],
-    message: &'a [u32],
+    g: &[u32],
+    t: &[u32],
+    t2: &[u32],
+    message: &[u32],
     out: &mut [u32],
     field: Field,
 ) -> Result<(), Refusal>

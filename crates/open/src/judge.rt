@@ -56,14 +56,14 @@ fn words_ok(row: bool, m: &[u32], z: &[u32], r: &[u32], field: Field) -> bool
     row && scan::all_below(m, field) && scan::all_below(z, field) && scan::all_below(r, field)
 }
 
-pub fn judge<'a>(
+pub fn judge(
     p: Parameters,
-    g: &'a [u32],
-    t: &'a [u32],
-    t2: &'a [u32],
-    m: &'a [u32],
-    z: &'a [u32],
-    r: &'a [u32],
+    g: &[u32],
+    t: &[u32],
+    t2: &[u32],
+    m: &[u32],
+    z: &[u32],
+    r: &[u32],
     o: usize,
     s: usize,
     field: Field,

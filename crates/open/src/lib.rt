@@ -11,14 +11,14 @@ use residue::Field;
 mod judge;
 
 // The answer is the polynomial's value at the point.
-pub fn write_opening<'a>(
+pub fn write_opening(
     p: Parameters,
-    g: &'a [u32],
-    t: &'a [u32],
-    t2: &'a [u32],
-    message: &'a [u32],
-    z: &'a [u32],
-    r: &'a [u32],
+    g: &[u32],
+    t: &[u32],
+    t2: &[u32],
+    message: &[u32],
+    z: &[u32],
+    r: &[u32],
     opening: &mut [u32],
     work: &mut [u32],
     field: Field,

@@ -55,16 +55,16 @@ fn words_ok(
 }
 
 // All that is lent but the queries.
-pub fn judge_opened<'a>(
+pub fn judge_opened(
     p: Parameters,
-    g: &'a [u32],
-    t: &'a [u32],
-    t2: &'a [u32],
-    block: &'a [u32],
-    z: &'a [u32],
+    g: &[u32],
+    t: &[u32],
+    t2: &[u32],
+    block: &[u32],
+    z: &[u32],
     y: u32,
-    r: &'a [u32],
-    opening: &'a [u32],
+    r: &[u32],
+    opening: &[u32],
     field: Field,
 ) -> Result<(), Refusal>
     ensures { outcome result ≡ judge_opened (chosen field) p.depth p.rate p.k0 g.now t.now t2.now block.now z.now y r.now opening.now }

@@ -21,30 +21,31 @@ fn all_in(input: Input, s: &[u32], field: Field) -> Result<(), Refusal>
     Ok(())
 }
 
-// The words of a call's inputs. What a call is not lent is empty.
+// The words of a call's inputs. What a call is not lent is empty. Each slice has a lifetime of its own, so that no caller has to lend them all for the same one.
 #[derive(Clone, Copy)]
-pub struct Inputs<'a> {
-    pub g: &'a [u32],
-    pub t: &'a [u32],
-    pub t2: &'a [u32],
-    pub block: &'a [u32],
-    pub z: &'a [u32],
-    pub y: &'a [u32],
-    pub r: &'a [u32],
-    pub opening: &'a [u32],
+pub struct Inputs<'g, 't, 't2, 'block, 'z, 'y, 'r, 'opening> {
+    pub g: &'g [u32],
+    pub t: &'t [u32],
+    pub t2: &'t2 [u32],
+    pub block: &'block [u32],
+    pub z: &'z [u32],
+    pub y: &'y [u32],
+    pub r: &'r [u32],
+    pub opening: &'opening [u32],
 }
 
-impl<'a> Inputs<'a> {
-    pub const NONE: Inputs<'static> = Inputs {
-        g: &[],
-        t: &[],
-        t2: &[],
-        block: &[],
-        z: &[],
-        y: &[],
-        r: &[],
-        opening: &[],
-    };
+impl Inputs<'_, '_, '_, '_, '_, '_, '_, '_> {
+    pub const NONE: Inputs<'static, 'static, 'static, 'static, 'static, 'static, 'static, 'static> =
+        Inputs {
+            g: &[],
+            t: &[],
+            t2: &[],
+            block: &[],
+            z: &[],
+            y: &[],
+            r: &[],
+            opening: &[],
+        };
 }
 
 // The first word of a call that is not below the modulus.
@@ -77,12 +78,12 @@ pub fn judge_words(words: bool, lent: &Inputs, field: Field) -> Result<(), Refus
 // that need none.
 #[cold]
 #[inline(never)]
-fn first_without_row<'a>(
-    t: &'a [u32],
-    t2: &'a [u32],
-    block: &'a [u32],
-    z: &'a [u32],
-    r: &'a [u32],
+fn first_without_row(
+    t: &[u32],
+    t2: &[u32],
+    block: &[u32],
+    z: &[u32],
+    r: &[u32],
     field: Field,
 ) -> Result<(), Refusal>
     requires { Short [] t.now t2.now block.now z.now [] r.now [] }
@@ -100,13 +101,13 @@ fn first_without_row<'a>(
 }
 
 // 4 for such a call. The flag is asked before the record is made: a small evaluation takes a quarter more time where each call makes one.
-pub fn judge_without_row<'a>(
+pub fn judge_without_row(
     words: bool,
-    t: &'a [u32],
-    t2: &'a [u32],
-    block: &'a [u32],
-    z: &'a [u32],
-    r: &'a [u32],
+    t: &[u32],
+    t2: &[u32],
+    block: &[u32],
+    z: &[u32],
+    r: &[u32],
     field: Field,
 ) -> Result<(), Refusal>
     requires { Short [] t.now t2.now block.now z.now [] r.now [] }

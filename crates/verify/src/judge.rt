@@ -8,17 +8,17 @@ use job::{Parameters, Refusal};
 use residue::Field;
 
 #[tactic(auto, unfolding(crate::specs::Verifying::judge_verifying))]
-pub fn judge<'a>(
+pub fn judge(
     p: Parameters,
-    g: &'a [u32],
-    t: &'a [u32],
-    t2: &'a [u32],
-    block: &'a [u32],
-    z: &'a [u32],
+    g: &[u32],
+    t: &[u32],
+    t2: &[u32],
+    block: &[u32],
+    z: &[u32],
     y: u32,
-    r: &'a [u32],
-    queries: &'a [u32],
-    opening: &'a [u32],
+    r: &[u32],
+    queries: &[u32],
+    opening: &[u32],
     field: Field,
 ) -> Result<(), Refusal>
     ensures { outcome result ≡ judge_verifying (chosen field) p.depth p.rate p.k0 g.now t.now t2.now block.now z.now y r.now queries.now opening.now }
