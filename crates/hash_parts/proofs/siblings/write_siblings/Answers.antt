@@ -1,9 +1,12 @@
-use mathlib.Core.Path.{◌∙◌}
+use mathlib.Core.Path.{refl, ◌∙◌}
 use Prim.Native.Nat.{◌+◌}
 use native.Mathlib.Omega.{arith}
 use Rattle.hash_parts.specs.Queries.{under, other}
 use Rattle.hash_parts.proofs.Loops.{each_turn, each_end, turn_room}
 use Rattle.hash_parts.proofs.siblings.write_siblings.Goals as goal
+
+pub loop-u-init : goal.loop-u-init
+loop-u-init c = (refl, omega arith, refl)
 
 pub loop-u-preserved : goal.loop-u-preserved
 loop-u-preserved c =
